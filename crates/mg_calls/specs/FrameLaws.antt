@@ -40,6 +40,7 @@ framed m old new t refusal keeps told tables walks commits = record {
   down = fallen m old new refusal keeps.cause keeps.down;
   tells = keeps.tells;
   most_writes = keeps.most_writes;
+  page_limit = keeps.page_limit;
   time = keeps.time;
   sizes = keeps.sizes;
   given = keeps.given;
@@ -127,7 +128,7 @@ blames_first m old mid new (Some (DiskWrite count)) faults damage shortages caus
 blames_first m old mid new (Some (Damaged page field found wanted)) faults damage shortages cause =
     rose_before (m.damage old) (m.damage mid) (m.damage new) cause damage
 blames_first m old mid new (Some (DatabaseFull limit)) faults damage shortages cause =
-    rose_before (m.shortages old) (m.shortages mid) (m.shortages new) cause shortages
+    (rose_before (m.shortages old) (m.shortages mid) (m.shortages new) cause.0 shortages, cause.1)
 blames_first m old mid new (Some (Offline count)) faults damage shortages (inl was) = inl was
 blames_first m old mid new (Some (Offline count)) faults damage shortages (inr rose) =
     inr (rose_before (m.faults old) (m.faults mid) (m.faults new) rose faults)
@@ -154,8 +155,10 @@ blames_last m old mid new (Some (DiskWrite count)) other t first faults cause =
     rose_behind (m.faults old) (m.faults mid) (m.faults new) first.faults cause
 blames_last m old mid new (Some (Damaged page field found wanted)) other t first faults cause =
     rose_behind (m.damage old) (m.damage mid) (m.damage new) first.damage cause
-blames_last m old mid new (Some (DatabaseFull limit)) other t first faults cause =
-    rose_behind (m.shortages old) (m.shortages mid) (m.shortages new) first.shortages cause
+blames_last m old mid new (Some (DatabaseFull limit)) other t first faults cause = (
+  rose_behind (m.shortages old) (m.shortages mid) (m.shortages new) first.shortages cause.0,
+  cause.1 ∙ first.page_limit,
+)
 blames_last m old mid new (Some (Offline count)) other t first faults cause =
     was_down m old mid new count first.faults faults first.down cause
 blames_last m old mid new (Some refusal) other t first faults cause = tt
@@ -184,6 +187,7 @@ joined m old mid new t a b refusal not_first not_second first second cause = rec
       first.faults second.faults first.down second.down;
   tells = second.tells ∙ first.tells;
   most_writes = second.most_writes ∙ first.most_writes;
+  page_limit = second.page_limit ∙ first.page_limit;
   time = λ told. elapses_then m old mid new (first.time told) (second.time (first.tells ∙ told));
   sizes = λ size. second.sizes size ∙ first.sizes size;
   given = λ table was. second.given table (first.given table was);

@@ -10,12 +10,12 @@ use Rattle.mg_records.specs.Meaning.{Means}
 use Rattle.mg_records.specs.Keeping.{CommitsStay, Elapses, TablesStay, WalksStay}
 
 -- The cause of a refusal that is answered after some calls: a fault of the disk, damage or want of
--- pages since then; or a page write had failed before, or did since then.
+-- pages since then, which names the page limit; or a page write had failed before, or did since then.
 abbrev pub Blames : {R P : Type 0} → Means R P → R → R → Option Refusal → Type 0
 Blames m old new (Some (DiskRead count)) = Rose (m.faults old) (m.faults new)
 Blames m old new (Some (DiskWrite count)) = Rose (m.faults old) (m.faults new)
 Blames m old new (Some (Damaged page field found wanted)) = Rose (m.damage old) (m.damage new)
-Blames m old new (Some (DatabaseFull limit)) = Rose (m.shortages old) (m.shortages new)
+Blames m old new (Some (DatabaseFull limit)) = Rose (m.shortages old) (m.shortages new) × (limit ≡ m.page_limit old)
 Blames m old new (Some (Offline count)) =
     (m.down old ≡ Some count) ⊎ Rose (m.faults old) (m.faults new)
 Blames m old new refusal = Unit {0}
@@ -32,6 +32,7 @@ pub record Frames {R P : Type 0} (m : Means R P) (old new : R) (t : ℕ) (refusa
   pub down : (m.down new ≡ m.down old) ⊎ Rose (m.faults old) (m.faults new)
   pub tells : m.tells new ≡ m.tells old
   pub most_writes : m.most_writes new ≡ m.most_writes old
+  pub page_limit : m.page_limit new ≡ m.page_limit old
   pub time : m.tells old ≡ true → Elapses m old new
   pub sizes : (size : ℕ) → m.is_size new size ≡ m.is_size old size
   pub given : (table : Table) → m.was_given old table → m.was_given new table

@@ -14,7 +14,7 @@ use Rattle.mg_pool.specs.Fault.{TellsFault}
 use Rattle.mg_space.specs.View.{Tells, pool_answer}
 use Rattle.mg_space.specs.declared.fault.SpaceFault.{SpaceFault}
 use Rattle.mg_core.specs.Beginning.{FailsBegin, WhyNotDrawn}
-use Rattle.mg_core.specs.Refusing.{CountsFault, IsRefusal}
+use Rattle.mg_core.specs.Refusing.{CountsFault, IsRefusal, NamesLimit}
 use Rattle.mg_pool.specs.Pool.{IsPool, shown}
 use Rattle.mg_pool.specs.declared.pool.Pool.{Pool}
 use Rattle.mg_snap.specs.Live.{AreDrawn, State as Bases, after_enter, after_retract, is_among, unended_in}
@@ -243,18 +243,20 @@ module _ {D : Type 0} (m : Meaning D) (old entered : Core D) (t session : ℕ) (
         (ap (λ (c : Core D). c.list) ok) refused))
 
     pub fails_begin : (fault : SpaceFault) (refusal : Refusal) → old.store.offline ≡ None
-        → t < GREATEST_NEXT → IsRefusal fault refusal → FailsDraw m entered.store store fault
+        → t < GREATEST_NEXT → IsRefusal fault refusal → NamesLimit final.store.geometry.limit refusal
+        → FailsDraw m entered.store store fault
         → TellsFault m entered.store store (pool_answer {T = TxNo} (Err fault))
         → ((image : Image) → Tells m entered.store.disk image
         → RefusesDraw m store entered.store.geometry (next_said entered.list) (shown entered.store.dirty image)
         fault)
         → CountsFault fault entered.damage final.damage entered.shortages final.shortages
         → FailsBegin m old final refusal
-    fails_begin fault refusal online below refuses left told refused counts = record {
+    fails_begin fault refusal online below refuses names left told refused counts = record {
       online = online;
       below = subst (λ (n : ℕ). n < GREATEST_NEXT) number below;
       fault = fault;
       is = refuses;
+      names = names;
       says = subst (λ (l : TxList). SaysSame old.list l) (sym list_now)
           (subst (λ (l : TxList). SaysSame l list) (ap (λ (c : Core D). c.list) ok) same);
       left = subst (λ (s : Pool D FireLinks). FailsDraw m old.store s fault) (sym store_now)

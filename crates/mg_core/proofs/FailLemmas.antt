@@ -11,6 +11,7 @@ use Rattle.mg_space.specs.declared.fault.SpaceFault.{SpaceFault}
 use Rattle.mg_space.specs.declared.fault.SpaceFault.TheVariants as space
 use Rattle.mg_core.specs.declared.parts.Core.{Core}
 use Rattle.mg_core.specs.Beginning.{BeginsFor, FailsBegin}
+use Rattle.mg_core.specs.RefusingLaws.{full_is}
 use Rattle.mg_core.specs.Refusing.{IsRefusal}
 
 -- a fault of the drawing is none of those that are told before it
@@ -27,7 +28,7 @@ begins_refused m old final session mode refusal fails = at fails.fault fails.is 
     at : (fault : SpaceFault) → IsRefusal fault refusal
         → TellsFault m old.store final.store (pool_answer {T = TxNo} (Err fault))
         → BeginsFor m old final session mode (Err refusal)
-    at (space.Full limit) is told = as_told _ is (λ f. inl f)
+    at (space.Full limit) is told = as_told _ (full_is refusal is).1 (λ f. inl f)
     at (space.Damaged damage) is told = as_told _ is (λ f. inl f)
     at (space.Pool (faults.DiskRead n)) is told = as_told _ is (λ f. inl f)
     at (space.Pool (faults.DiskWrite n)) is told = as_told _ is (λ f. inl f)

@@ -17,7 +17,7 @@ use Rattle.mg_txlist.specs.Refusals.{RefusesDraw}
 use Rattle.mg_txlist.specs.TxList.{next_said}
 use Rattle.mg_works.specs.Works.{begun}
 use Rattle.mg_core.specs.declared.parts.Core.{Core}
-use Rattle.mg_core.specs.Refusing.{CountsFault, IsRefusal}
+use Rattle.mg_core.specs.Refusing.{CountsFault, IsRefusal, NamesLimit}
 
 -- The next number is drawn on the pages; its transaction is active, with a new base, and has nothing to take
 -- back.
@@ -47,6 +47,7 @@ pub record FailsBegin {D : Type 0} (m : Meaning D) (old new : Core D) (refusal :
   pub below : next_said old.list < GREATEST_NEXT
   pub fault : SpaceFault
   pub is : IsRefusal fault refusal
+  pub names : NamesLimit new.store.geometry.limit refusal
   pub says : SaysSame old.list new.list
   pub left : FailsDraw m old.store new.store fault
   pub told : TellsFault m old.store new.store (pool_answer {T = TxNo} (Err fault))

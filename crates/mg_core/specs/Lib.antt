@@ -1,5 +1,6 @@
 pub mod Cores
 pub mod Refusing
+pub mod RefusingLaws
 pub mod Events
 pub mod Committing
 pub mod Ending

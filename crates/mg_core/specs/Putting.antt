@@ -31,7 +31,7 @@ use Rattle.mg_works.specs.Works.{Working, unasked, with_change, with_work, witho
 use Rattle.mg_core.specs.declared.parts.Core.{Core}
 use Rattle.mg_core.specs.Obstacles.{IsTold}
 use Rattle.mg_core.specs.Reading.{FailsReading, OnlyReads}
-use Rattle.mg_core.specs.Refusing.{CountsFault, IsRefusal}
+use Rattle.mg_core.specs.Refusing.{CountsFault, IsRefusal, NamesLimit}
 
 -- A fault is told and counted, and nothing else has happened.
 pub record CountsOne {D : Type 0} (old new : Core D) (fault : SpaceFault) (refusal : Refusal) : Type 0 where
@@ -62,6 +62,7 @@ pub record FailsLaid {D : Type 0} (m : Meaning D) (old new : Core D) (t owner : 
   pub fault : SpaceFault
   pub fails : FailsLay m old.store new.store owner before.way v fault
   pub is : IsRefusal fault refusal
+  pub names : NamesLimit new.store.geometry.limit refusal
   pub counts : CountsFault fault old.damage new.damage old.shortages new.shortages
   pub same : new ≡ record old {
     store = new.store;

@@ -16,14 +16,25 @@ IsRefusalOf (faults.Offline n) refusal = refusal ≡ refusals.Offline n
 IsRefusalOf (faults.Absent n) refusal = ⊥
 IsRefusalOf faults.Memory refusal = refusal ≡ refusals.Memory
 
--- the refusal that a fault of a call on the pages is; an absent page of the cache's is damage, too
+-- it is told for want of pages
+abbrev pub IsFull : Refusal → Type 0
+IsFull (refusals.DatabaseFull limit) = Unit {0}
+IsFull refusal = ⊥
+
+-- The refusal that a fault of a call on the pages is; an absent page of the cache's is damage, too. Which page limit want
+-- of pages names is said by `NamesLimit`.
 abbrev pub IsRefusal : SpaceFault → Refusal → Type 0
-IsRefusal (space.Full limit) refusal = refusal ≡ refusals.DatabaseFull limit
+IsRefusal (space.Full most) refusal = IsFull refusal
 IsRefusal (space.Damaged damage) refusal =
     refusal ≡ refusals.Damaged damage.page damage.field damage.found damage.wanted
 IsRefusal (space.Pool (faults.Absent pages)) refusal =
     refusal ≡ refusals.Damaged (record { 0 = 0 }) Presence pages pages
 IsRefusal (space.Pool fault) refusal = IsRefusalOf fault refusal
+
+-- want of pages names the page limit
+abbrev pub NamesLimit : ℕ → Refusal → Type 0
+NamesLimit limit (refusals.DatabaseFull named) = named ≡ limit
+NamesLimit limit refusal = Unit {0}
 
 -- a count has risen by one, but for one that stands at its end
 abbrev pub OneMore : ℕ → ℕ → Type 0

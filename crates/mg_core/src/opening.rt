@@ -33,7 +33,7 @@ impl<D: Disk> Core<D> {
     {
         let mut store = match prepare(alloc, disk, limit) {
             Ok(store) => store,
-            Err((disk, fault)) => return Err((disk, open_refusal(fault))),
+            Err((disk, fault)) => return Err((disk, open_refusal(fault, limit))),
         };
         match load(&mut store) {
             Ok(loaded) => Ok(Core {
@@ -47,7 +47,7 @@ impl<D: Disk> Core<D> {
                 damage: 0,
                 shortages: 0,
             }),
-            Err(fault) => Err((store.into_disk(), open_refusal(fault))),
+            Err(fault) => Err((store.into_disk(), open_refusal(fault, limit))),
         }
     }
 
@@ -72,13 +72,13 @@ impl<D: Disk> Core<D> {
     }
 }
 
-/// The refusal that a fault of an opening is.
-fn open_refusal(fault: OpenFault) -> Refusal
+/// The refusal that a fault of an opening is, for which a page limit was asked.
+fn open_refusal(fault: OpenFault, limit: u32) -> Refusal
     ensures { IsOpenRefusal fault result }
 {
     match fault {
         OpenFault::NotADatabase { field, found } => Refusal::NotADatabase { field, found },
-        OpenFault::Space(fault) => refusal_of(fault),
+        OpenFault::Space(fault) => refusal_of(fault, limit),
     }
 }
 

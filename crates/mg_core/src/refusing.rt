@@ -3,10 +3,10 @@
 ghost use Rattle.std.specs.Prelude.{◌≡◌, Err};
 ghost use Rattle.mg_pool.specs.Fault.{OnlyRefuses, OnlyWrites};
 ghost use Rattle.mg_txlist.specs.Ending.{OnlyWritesSpace};
-ghost use Rattle.mg_core.specs.Refusing.{CountsFault, IsRefusal, IsRefusalOf};
+ghost use Rattle.mg_core.specs.Refusing.{CountsFault, IsRefusal, IsRefusalOf, NamesLimit};
 
 use crate::parts::Core;
-use mg_base::{Field, PageNo};
+use mg_base::{Disk, Field, PageNo};
 use mg_model::Refusal;
 use mg_pool::PoolFault;
 use mg_space::SpaceFault;
@@ -45,12 +45,13 @@ pub fn bits_refusal(fault: SpaceFault) -> Refusal
     }
 }
 
-/// The refusal that a fault of a call on the pages is.
-pub fn refusal_of(fault: SpaceFault) -> Refusal
-    ensures { IsRefusal fault result }
+/// The refusal that a fault of a call on the pages is, in a database with a page limit: want of pages names it.
+pub fn refusal_of(fault: SpaceFault, limit: u32) -> Refusal
+    ensures refusal { IsRefusal fault result }
+    ensures names { NamesLimit limit result }
 {
     match fault {
-        SpaceFault::Full { limit } => Refusal::DatabaseFull { limit },
+        SpaceFault::Full { .. } => Refusal::DatabaseFull { limit },
         SpaceFault::Damaged(damage) => Refusal::Damaged {
             page: damage.page,
             field: damage.field,
@@ -70,10 +71,12 @@ pub fn refusal_of(fault: SpaceFault) -> Refusal
     }
 }
 
-impl<D> Core<D> {
-    /// The refusal that a fault of a call on the pages is. Damage is counted, and so is want of pages.
+impl<D: Disk> Core<D> {
+    /// The refusal that a fault of a call on the pages is. Damage is counted, and so is want of pages, which names the
+    /// store's page limit.
     pub fn refuse(&mut self, fault: SpaceFault) -> Refusal
         ensures refusal { IsRefusal fault result }
+        ensures names { NamesLimit self.new.store.geometry.limit result }
         ensures counts { CountsFault fault self.old.damage self.new.damage self.old.shortages self.new.shortages }
         ensures same { self.new ≡ record self.old { damage = self.new.damage; shortages = self.new.shortages } }
     {
@@ -87,6 +90,7 @@ impl<D> Core<D> {
             }
             SpaceFault::Pool(_) => {}
         }
-        refusal_of(fault)
+        let limit = self.store.geometry().limit;
+        refusal_of(fault, limit)
     }
 }

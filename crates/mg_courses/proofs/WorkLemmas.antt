@@ -1,18 +1,20 @@
--- States of a transaction, and refusals without an event.
-use Rattle.std.proofs.Common.{◌≡◌, ℕ, ◌==◌, not, Bool, true, false, sym, ap, ◌∙◌, refl}
-use Rattle.std.specs.Prelude.{if◌then◌else◌}
+-- States of a transaction, and refusals of a page write.
+use Rattle.std.proofs.Common.{◌≡◌, ℕ, ◌==◌, not, Bool, true, false, Result, Ok, Err, refl}
+use Rattle.std.specs.Prelude.{IfErr, if◌then◌else◌}
 use Rattle.std.proofs.lemmas.Bool.{eq-eqb}
 use Rattle.mg_base.specs.declared.numbers.TxNo.{TxNo}
 use Rattle.mg_base.specs.declared.transaction.TxState.{TxState}
 use Rattle.mg_base.specs.declared.transaction.TxState.TheVariants.{Active, Limbo, Dead, Committed}
+use Rattle.mg_model.specs.declared.answer.Answer.TheVariants.{No}
 use Rattle.mg_model.specs.declared.opening.Opening.{Opening}
 use Rattle.mg_model.specs.declared.refusal.Refusal.{Refusal}
-use Rattle.mg_model.specs.declared.refusal.Refusal.TheVariants.{DatabaseFull, NotActive}
 use Rattle.mg_model.specs.Answers.{is_active}
 use Rattle.mg_model.specs.History.{Entries}
-use Rattle.mg_model.specs.Machine.{state_of}
-use Rattle.mg_records.specs.Adding.{IsRefused}
+use Rattle.mg_model.specs.Legal.{is_outer}
+use Rattle.mg_records.specs.Asking.{TakesNothing}
+use Rattle.mg_records.specs.Keeping.{refusal_in}
 use Rattle.mg_transcript.specs.Courses.{Course, Committing}
+use Rattle.mg_transcript.specs.OutsideLaws.{outer_outside}
 use Rattle.mg_transcript.specs.Steps.{is_outside}
 use Rattle.mg_courses.specs.declared.work.Work.{Work}
 use Rattle.mg_courses.specs.declared.work.Work.TheVariants as works
@@ -33,14 +35,11 @@ pub ended_over : (t : ℕ) (old end : TxState) (over : Bool) → is_active end �
     → is_active (if t == t then end else old) ≡ not over
 ended_over t old end over closed is = rw (eq-eqb t t refl, is) closed
 
-pub refused_outside : (o : Opening) (h : Entries) (t : ℕ) (refusal : Refusal) → state_of o h t ≡ Active
-    → IsRefused o h t refusal → is_outside refusal ≡ true
-refused_outside o h t (NotActive state) active is = absurd (both state (sym is.0 ∙ active) is.1)
-  where
-    both : (state : TxState) → state ≡ Active → is_active state ≡ false → ⊥
-    both state same closed = absurd (cc (ap is_active same, closed))
-refused_outside o h t (DatabaseFull limit) active never = absurd never
-refused_outside o h t refusal active is = is
+-- a page write is refused from outside, and takes no page
+pub written_outside : (result : Result Bool Refusal) → IfErr result (λ refusal. is_outer (No refusal) ≡ true)
+    → TakesNothing (refusal_in result) → IfErr result (λ refusal. is_outside refusal ≡ true)
+written_outside (Ok x) outer nothing = tt
+written_outside (Err refusal) outer nothing = outer_outside refusal outer nothing
 
 pub commit_course : {R Run : Type 0} (runs : RunMeans R Run) (r : R) (o : Opening) (h : Entries)
     (t : TxNo) (work : Work Run) (course : Course) (written : Bool)

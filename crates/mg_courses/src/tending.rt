@@ -28,6 +28,7 @@ impl<R: PageWrites> Tends for R
 where
     R::Place: Drop,
 {
+    #[tactic(auto, using(crate::proofs::WorkLemmas::written_outside))]
     fn write_page(&mut self) -> Result<bool, Refusal> {
         PageWrites::write_page(self)
     }

@@ -16,7 +16,7 @@ use Rattle.mg_no_damage.specs.FewPagesLaws.{has_fewer}
 use Rattle.mg_no_damage.specs.WithRoom.{TakesPages, adds_with, fine_full, finds_with, goes_with, makes_with, number_full, reads_with, undoes_with}
 use Rattle.mg_records.specs.Adding.{Adds, fine_or, number_or}
 use Rattle.mg_records.specs.Asking.{TakesNoPage}
-use Rattle.mg_records.specs.Keeping.{Reads, refusal_in}
+use Rattle.mg_records.specs.Keeping.{Keeps, Reads, refusal_in}
 use Rattle.mg_records.specs.Needed.{pages_of}
 use Rattle.mg_records.specs.Reading.{FindAdds}
 use Rattle.mg_records.specs.Room.{TakesFew, TakesFewBack, pages_of_table}
@@ -38,21 +38,21 @@ module _ {D P : Type 0} (m : Meaning D) (places : Places P) where
   module _ (old new : Core D) where
     pub gives_room : (event : Event) (result : Result (Unit {0}) Refusal) (most : ℕ)
         → ((o : Opening) (h : Entries) → most ≤ pages_of o h event (fine_or result))
-        → TakesPages event (refusal_in result)
+        → TakesPages event (refusal_in result) → Keeps (means m places) old new (refusal_in result)
         → TakesFew (means m places) old new (refusal_in result) most
         → Adds (means m places) old new event (fine_or result)
         → Adds (means_with_room m places) old new event (fine_or result)
-    gives_room event result most least kind takes adds = adds_with (means m places) stands_tell fewer_free old new event
-        (fine_or result) (refusal_in result) most least (fine_full result) kind takes adds
+    gives_room event result most least kind keeps takes adds = adds_with (means m places) stands_tell fewer_free old new event
+        (fine_or result) (refusal_in result) most least (fine_full result) kind keeps takes adds
 
     pub numbers_room : (event : Event) (result : Result TxNo Refusal) (most : ℕ)
         → ((o : Opening) (h : Entries) → most ≤ pages_of o h event (number_or result))
-        → TakesPages event (refusal_in result)
+        → TakesPages event (refusal_in result) → Keeps (means m places) old new (refusal_in result)
         → TakesFew (means m places) old new (refusal_in result) most
         → Adds (means m places) old new event (number_or result)
         → Adds (means_with_room m places) old new event (number_or result)
-    numbers_room event result most least kind takes adds = adds_with (means m places) stands_tell fewer_free old new event
-        (number_or result) (refusal_in result) most least (number_full result) kind takes adds
+    numbers_room event result most least kind keeps takes adds = adds_with (means m places) stands_tell fewer_free old new event
+        (number_or result) (refusal_in result) most least (number_full result) kind keeps takes adds
 
     pub reads_room : (refusal : Option Refusal) (walks : Option ℕ) → TakesFew (means m places) old new refusal 0
         → Reads (means m places) old new refusal walks → Reads (means_with_room m places) old new refusal walks
@@ -61,26 +61,30 @@ module _ {D P : Type 0} (m : Meaning D) (places : Places P) where
 
     pub finds_room : (t : TxNo) (name : List ℕ) (filter : Option Expr) (rows : List Cells)
         (result : Result (Unit {0}) Refusal) → TakesNoPage (refusal_in result)
+        → Keeps (means m places) old new (refusal_in result)
         → TakesFew (means m places) old new (refusal_in result) 0 → FindAdds (means m places) old new t name filter rows result
         → FindAdds (means_with_room m places) old new t name filter rows result
-    finds_room t name filter rows result none takes adds = finds_with (means m places) stands_tell fewer_free old new t name
-        filter rows result none takes adds
+    finds_room t name filter rows result none keeps takes adds = finds_with (means m places) stands_tell fewer_free old new t name
+        filter rows result none keeps takes adds
 
     pub undoes_room : (t : TxNo) (result : Result (Unit {0}) Refusal)
+        → Keeps (means m places) old new (refusal_in result)
         → TakesFewBack (means m places) old new (refusal_in result) t.0 LastMark
         → Undoes (means m places) old new t result → Undoes (means_with_room m places) old new t result
-    undoes_room t result takes undoes = undoes_with (means m places) stands_tell fewer_free old new t result takes undoes
+    undoes_room t result keeps takes undoes = undoes_with (means m places) stands_tell fewer_free old new t result keeps
+        takes undoes
 
     pub goes_room : (t : TxNo) (name : List ℕ) (result : Result Bool Refusal)
+        → Keeps (means m places) old new (refusal_in result)
         → TakesFewBack (means m places) old new (refusal_in result) t.0 (SavepointNamed name)
         → GoesBack (means m places) old new t name result → GoesBack (means_with_room m places) old new t name result
-    goes_room t name result takes goes = goes_with (means m places) stands_tell fewer_free old new t name result takes
-        goes
+    goes_room t name result keeps takes goes = goes_with (means m places) stands_tell fewer_free old new t name result
+        keeps takes goes
 
     pub makes_table_room : (t : TxNo) (name : List ℕ) (shape : Shape) (refusal : Option Refusal)
-        → length shape.columns ≤ MOST_COLUMNS
+        → length shape.columns ≤ MOST_COLUMNS → Keeps (means m places) old new refusal
         → TakesFew (means m places) old new refusal (pages_of_table (length shape.columns))
         → MakesTable (means m places) old new t name shape refusal
         → MakesTable (means_with_room m places) old new t name shape refusal
-    makes_table_room t name shape refusal few takes makes = makes_with (means m places) stands_tell fewer_free old new t
-        name shape refusal few takes makes
+    makes_table_room t name shape refusal few keeps takes makes = makes_with (means m places) stands_tell fewer_free old new
+        t name shape refusal few keeps takes makes

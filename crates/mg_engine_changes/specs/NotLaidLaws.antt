@@ -1,6 +1,7 @@
 -- A version was not laid: the engine goes on with the refused event. A first batch may have been changed, which adds
 -- nothing; then pages were read, or a page write failed; and what was kept of the change is taken back.
 use Rattle.std.proofs.Common.{◌≡◌, ◌⊎◌, inl, inr, ℕ, List, ◌∷◌, Option, None, Some, refl, sym, ap, ◌∙◌, subst}
+use Rattle.mg_base.specs.declared.geometry.Geometry.{Geometry}
 use Rattle.mg_base.specs.Disk.{Meaning}
 use Rattle.mg_base.specs.Image.{Image}
 use Rattle.mg_base.specs.declared.numbers.TxNo.{TxNo}
@@ -43,7 +44,7 @@ use Rattle.mg_waits.specs.Waits.{NowWaits, edges_in}
 use Rattle.mg_works.specs.Works.{Working, given_to, work_of}
 use Rattle.mg_core.specs.declared.parts.Core.{Core}
 use Rattle.mg_core.specs.Cores.{IsCore}
-use Rattle.mg_core.specs.Refusing.{CountsFault}
+use Rattle.mg_core.specs.Refusing.{CountsFault, NamesLimit}
 use Rattle.mg_core.specs.Writing.{HasBegun}
 use Rattle.mg_engine_meaning.specs.FrameLaws.{apart_from, commits_of, keeps_of, sessions_of, tables_of}
 use Rattle.mg_engine_meaning.specs.Frames.{GivesEvent, MayAnswer}
@@ -61,7 +62,7 @@ use Rattle.mg_engine_changes.specs.Refusals.{IsNotLaid}
 use Rattle.mg_engine_changes.specs.StopLaws.{fault_outer, fault_waits, reads_on, risen}
 use Rattle.mg_engine_changes.specs.Retracted.{works_retracted}
 use Rattle.mg_engine_changes.specs.RetractedLaws.{retracted_frame, retracted_given, retracted_stands}
-use Rattle.mg_engine_changes.specs.StageLaws.{fails_so, fault_may, over_so, own_left, own_tells, reads_so, so_then}
+use Rattle.mg_engine_changes.specs.StageLaws.{fails_so, fault_may, left_geometry, over_so, own_left, own_tells, reads_so, so_then}
 use Rattle.mg_engine_changes.specs.Stages.{FailsReady, StaysSo, TellsOf}
 
 -- A store to which a call came without adding anything, and then a batch of its own failed.
@@ -198,7 +199,9 @@ module _ (retract : RetractTakesKeepBack) {D P : Type 0} (m : Meaning D) (places
 
   may : MayAnswer m places old new (Some refusal)
   may = fault_may m places old new from.before failed.fails.fault refusal online from.up
-      from.so.goes.time.never_falls failed.fails.is from.told counts
+      from.so.goes.time.never_falls failed.fails.is (subst (λ (g : Geometry). NamesLimit g.limit refusal)
+      (left_geometry m from.before new.store failed.fails.fault from.left ∙ from.so.goes.geometry) failed.fails.names)
+      from.told counts
 
   -- ---- memory
 

@@ -123,6 +123,7 @@ module _ (works_stay : NotedWorksStay) {D : Type 0} (m : Meaning D) (notes_stay 
         tells = gives.leaves.keeps.tells;
         most_writes = gives.leaves.keeps.most_writes;
         time = λ told_. let all = gives.leaves.keeps.time told_ in record { later = all.later; keeps = all.keeps };
+        page_limit = gives.leaves.keeps.page_limit;
         sizes = gives.leaves.keeps.sizes;
         holds = gives.leaves.keeps.holds;
         given = gives.leaves.keeps.given;

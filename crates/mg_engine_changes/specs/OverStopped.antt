@@ -164,6 +164,7 @@ module _ {D P : Type 0} (m : Meaning D) (known : KnownOfBacks D P m) (apart : Gi
     left = own_left m mid.store stopped.store _ _ fails.fault fails.fails.own;
     told = own_tells m mid.store stopped.store _ _ fails.fault fails.fails.own;
     is = fails.is;
+    names = fails.names;
     counts = fails.counts;
     same = fails.same;
   }

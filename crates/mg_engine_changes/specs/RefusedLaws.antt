@@ -1,6 +1,7 @@
 -- A table that is not made: what was kept of its keys is taken back, and the event of its own row is given with the
 -- refusal. The catalog may have got pages, which add nothing.
 use Rattle.std.proofs.Common.{◌≡◌, ◌⊎◌, inl, inr, refl, sym, ap, ◌∙◌, subst, ◌≤◌, arith, ℕ, true, false, List, ◌∷◌, length, Option, None, Some}
+use Rattle.mg_base.specs.declared.geometry.Geometry.{Geometry}
 use Rattle.mg_base.specs.Disk.{Meaning}
 use Rattle.mg_base.specs.declared.numbers.TxNo.{TxNo}
 use Rattle.mg_base.specs.declared.transaction.TxState.TheVariants.{Active}
@@ -34,7 +35,7 @@ use Rattle.mg_waits.specs.Waits.{NowWaits, edges_in}
 use Rattle.mg_works.specs.Works.{Working, given_by, given_to, unasked, with_work, work_of}
 use Rattle.mg_works.specs.WorksLaws.{with_its, with_none}
 use Rattle.mg_core.specs.Cores.{IsCore}
-use Rattle.mg_core.specs.Refusing.{CountsFault}
+use Rattle.mg_core.specs.Refusing.{CountsFault, NamesLimit}
 use Rattle.mg_core.specs.declared.parts.Core.{Core}
 use Rattle.mg_engine_changes.specs.MakingRefusals.{own_event}
 use Rattle.mg_engine_steps.specs.Following.{StandsOn}
@@ -50,7 +51,7 @@ use Rattle.mg_engine_meaning.specs.Meaning.{AreNext, Places, means, place_at}
 use Rattle.mg_engine_meaning.specs.MemoryCallLaws.{idle_finds, memory_stands, nothing_follows}
 use Rattle.mg_engine_meaning.specs.Standings.{StandsFor, asked_kept, sessions_in, standing_of, written_kept}
 use Rattle.mg_engine_meaning.specs.StepLaws.{as_standing}
-use Rattle.mg_engine_changes.specs.StageLaws.{fails_so, fault_may, own_left, own_tells, reads_so, so_then}
+use Rattle.mg_engine_changes.specs.StageLaws.{fails_so, fault_may, left_geometry, own_left, own_tells, reads_so, so_then}
 use Rattle.mg_engine_changes.specs.Stages.{FailsReady, StaysSo, TellsOf}
 use Rattle.mg_engine_changes.specs.MadeLaws.{stays_then}
 use Rattle.mg_engine_changes.specs.Notes.{AreCounts, HasRead}
@@ -454,7 +455,9 @@ module _ (retract : RetractTakesKeepBack) {D P : Type 0} (m : Meaning D) (known 
       short = (risen failed.fault old.damage new.damage old.shortages new.shortages counted.damage counted.shortages
           counts).1;
       may = fault_may m places old new from.before failed.fault refusal up from.come.up
-          from.come.so.goes.time.never_falls failed.is from.told counts;
+          from.come.so.goes.time.never_falls failed.is (subst (λ (g : Geometry). NamesLimit g.limit refusal)
+          (left_geometry m from.before new.store failed.fault from.left ∙ from.come.so.goes.geometry) failed.names)
+          from.told counts;
       takes = unasked_back t.0 old.catalog.pointer.0 keys old.works;
       work = may_be.has_begun.may.work;
       its = work_is;

@@ -24,7 +24,8 @@ use Rattle.mg_space.specs.declared.fault.SpaceFault.{SpaceFault}
 use Rattle.mg_space.specs.declared.fault.SpaceFault.TheVariants as faults
 use Rattle.mg_space.specs.declared.links.FireLinks.{FireLinks}
 use Rattle.mg_core.specs.declared.parts.Core.{Core}
-use Rattle.mg_core.specs.Refusing.{CountsFault, IsRefusal}
+use Rattle.mg_core.specs.RefusingLaws.{full_is}
+use Rattle.mg_core.specs.Refusing.{CountsFault, IsRefusal, NamesLimit}
 use Rattle.mg_engine_meaning.specs.FrameLaws.{apart_from, quiet_of}
 use Rattle.mg_engine_meaning.specs.Frames.{MayAnswer}
 use Rattle.mg_engine_meaning.specs.LawfulLaws.{memory_of}
@@ -196,46 +197,56 @@ module _ {D : Type 0} (m : Meaning D) where
   own_tells before after fills refuses fault (not_changed batch ready keeps online filled fails) =
       batch_tells before ready after batch fault keeps online.1 fails
 
+-- the page limit stays
+pub left_geometry : {D : Type 0} (m : Meaning D) (before after : Pool D FireLinks) (fault : SpaceFault)
+    → KeepsStore m before after ⊎ FailsReady m before after fault → after.geometry ≡ before.geometry
+left_geometry m before after fault (inl keeps) = keeps.geometry
+left_geometry m before after fault (inr fails) =
+    (fails_goes m fails.ready after (pool_faults.DiskWrite fails.count) fails.fails).geometry ∙ fails.keeps.geometry
+
 -- ---- the refusal has its cause
 
 pub fault_may : {D P : Type 0} (m : Meaning D) (places : Places P) (old new : Core D) (before : Pool D FireLinks)
     (fault : SpaceFault) (refusal : Refusal) → old.store.offline ≡ None → before.offline ≡ None
     → m.faults old.store.disk ≤ m.faults before.disk → IsRefusal fault refusal
-    → TellsOf m before new.store fault
+    → NamesLimit old.store.geometry.limit refusal → TellsOf m before new.store fault
     → CountsFault fault old.damage new.damage old.shortages new.shortages
     → MayAnswer m places old new (Some refusal)
-fault_may m places old new before (faults.Full limit) refusal online up rises is told counts =
-    subst (λ (r : Refusal). MayAnswer m places old new (Some r)) (sym is) (record {
-      cause = rose_one old.shortages new.shortages counts.1;
+fault_may m places old new before (faults.Full most) refusal online up rises is names told counts =
+    subst (λ (r : Refusal). MayAnswer m places old new (Some r)) (sym (full_is refusal is).1) (record {
+      cause = (
+        rose_one old.shortages new.shortages counts.1,
+        subst (NamesLimit old.store.geometry.limit) (full_is refusal is).1 names,
+      );
       offline = rw online tt;
       down = told ∙ sym online;
     })
-fault_may m places old new before (faults.Damaged it) refusal online up rises is told counts =
-    subst (λ (r : Refusal). MayAnswer m places old new (Some r)) (sym is) (record {
-      cause = rose_one old.damage new.damage counts.0;
-      offline = rw online tt;
-      down = told ∙ sym online;
-    })
-fault_may m places old new before (faults.Pool (pool_faults.Absent pages)) refusal online up rises is told counts =
+fault_may m places old new before (faults.Damaged it) refusal online up rises is names told counts =
     subst (λ (r : Refusal). MayAnswer m places old new (Some r)) (sym is) (record {
       cause = rose_one old.damage new.damage counts.0;
       offline = rw online tt;
       down = told ∙ sym online;
     })
-fault_may m places old new before (faults.Pool (pool_faults.DiskRead n)) refusal online up rises is told counts =
+fault_may m places old new before (faults.Pool (pool_faults.Absent pages)) refusal online up rises is names told counts =
+    subst (λ (r : Refusal). MayAnswer m places old new (Some r)) (sym is) (record {
+      cause = rose_one old.damage new.damage counts.0;
+      offline = rw online tt;
+      down = told ∙ sym online;
+    })
+fault_may m places old new before (faults.Pool (pool_faults.DiskRead n)) refusal online up rises is names told counts =
     subst (λ (r : Refusal). MayAnswer m places old new (Some r)) (sym is) (record {
       cause = rose_later (m.faults old.store.disk) (m.faults before.disk) (m.faults new.store.disk) rises told.1;
       offline = rw online tt;
       down = told.0 ∙ sym online;
     })
-fault_may m places old new before (faults.Pool (pool_faults.DiskWrite n)) refusal online up rises is told counts =
+fault_may m places old new before (faults.Pool (pool_faults.DiskWrite n)) refusal online up rises is names told counts =
     subst (λ (r : Refusal). MayAnswer m places old new (Some r)) (sym is) (record {
       cause = rose_later (m.faults old.store.disk) (m.faults before.disk) (m.faults new.store.disk) rises told.1;
       offline = rw online tt;
       down = told.0;
     })
-fault_may m places old new before (faults.Pool (pool_faults.Offline n)) refusal online up rises is told counts =
+fault_may m places old new before (faults.Pool (pool_faults.Offline n)) refusal online up rises is names told counts =
     let both : None ≡ Some n = sym up ∙ told in absurd cc
-fault_may m places old new before (faults.Pool pool_faults.Memory) refusal online up rises is told counts =
+fault_may m places old new before (faults.Pool pool_faults.Memory) refusal online up rises is names told counts =
     subst (λ (r : Refusal). MayAnswer m places old new (Some r)) (sym is)
     (record { cause = tt; offline = rw online tt; down = told ∙ sym online })

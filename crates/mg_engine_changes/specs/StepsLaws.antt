@@ -7,6 +7,7 @@ use Rattle.mg_base.specs.declared.numbers.TxNo.{TxNo}
 use Rattle.mg_base.specs.declared.transaction.TxState.TheVariants.{Active}
 use Rattle.mg_core.specs.Cores.{Continues, IsCore}
 use Rattle.mg_core.specs.Events.{EndsWait, IsRefused, RollsBack}
+use Rattle.mg_core.specs.RefusingLaws.{full_is}
 use Rattle.mg_core.specs.Refusing.{IsRefusal}
 use Rattle.mg_core.specs.declared.parts.Core.{Core}
 use Rattle.mg_engine_changes.specs.CatalogLaws.{leaves_the_catalog}
@@ -75,7 +76,7 @@ forgotten_apart t works apart = with_apart t without_tables (λ w. refl) (λ w. 
 given_up_by : {D : Type 0} (m : Meaning D) (before after : Pool D FireLinks) (fault : SpaceFault) (refusal : Refusal)
     → before.offline ≡ None → after.offline ≡ None → IsRefusal fault refusal → TellsOf m before after fault
     → is_given_up refusal ≡ true
-given_up_by m before after (faults.Full limit) refusal up also is told = ap is_given_up is
+given_up_by m before after (faults.Full limit) refusal up also is told = ap is_given_up (full_is refusal is).1
 given_up_by m before after (faults.Damaged it) refusal up also is told = ap is_given_up is
 given_up_by m before after (faults.Pool (pool_faults.Absent pages)) refusal up also is told = ap is_given_up is
 given_up_by m before after (faults.Pool (pool_faults.DiskRead n)) refusal up also is told = ap is_given_up is

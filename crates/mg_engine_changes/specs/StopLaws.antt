@@ -30,6 +30,7 @@ use Rattle.mg_core.specs.Events.{EndsWait}
 use Rattle.mg_core.specs.Obstacles.{NotesWait}
 use Rattle.mg_core.specs.Putting.{CountsOne}
 use Rattle.mg_core.specs.Reading.{FailsReading, OnlyReads}
+use Rattle.mg_core.specs.RefusingLaws.{full_is}
 use Rattle.mg_core.specs.Refusing.{CountsFault, IsRefusal, OneMore}
 use Rattle.mg_engine_meaning.specs.Frames.{MayAnswer}
 use Rattle.mg_engine_meaning.specs.Meaning.{Places}
@@ -86,7 +87,7 @@ risen (faults.Pool pool_faults.Memory) damage now shortages later fits few count
 -- one who is refused for a fault waits for nobody
 pub fault_waits : (fault : SpaceFault) (refusal : Refusal) → IsRefusal fault refusal
     → waited_on (No refusal) ≡ None
-fault_waits (faults.Full limit) refusal its = ap (λ (r : Refusal). waited_on (No r)) its
+fault_waits (faults.Full limit) refusal its = ap (λ (r : Refusal). waited_on (No r)) (full_is refusal its).1
 fault_waits (faults.Damaged d) refusal its = ap (λ (r : Refusal). waited_on (No r)) its
 fault_waits (faults.Pool (pool_faults.Absent n)) refusal its = ap (λ (r : Refusal). waited_on (No r)) its
 fault_waits (faults.Pool (pool_faults.DiskRead n)) refusal its = ap (λ (r : Refusal). waited_on (No r)) its
@@ -279,7 +280,7 @@ module _ {D P : Type 0} (m : Meaning D) (places : Places P) (counts_now : Counts
 
 -- an answer from outside
 pub fault_outer : (fault : SpaceFault) (refusal : Refusal) → IsRefusal fault refusal → is_outer (No refusal) ≡ true
-fault_outer (faults.Full limit) refusal its = ap (λ (r : Refusal). is_outer (No r)) its
+fault_outer (faults.Full limit) refusal its = ap (λ (r : Refusal). is_outer (No r)) (full_is refusal its).1
 fault_outer (faults.Damaged d) refusal its = ap (λ (r : Refusal). is_outer (No r)) its
 fault_outer (faults.Pool (pool_faults.Absent n)) refusal its = ap (λ (r : Refusal). is_outer (No r)) its
 fault_outer (faults.Pool (pool_faults.DiskRead n)) refusal its = ap (λ (r : Refusal). is_outer (No r)) its

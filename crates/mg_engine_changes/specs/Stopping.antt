@@ -3,7 +3,7 @@ use Rattle.std.proofs.Common.{◌≡◌, ◌⊎◌, inl, inr, ℕ, Option, None,
 use Rattle.mg_base.specs.Disk.{Meaning}
 use Rattle.mg_base.specs.declared.numbers.RecId.{RecId}
 use Rattle.mg_base.specs.declared.transaction.TxState.{TxState}
-use Rattle.mg_core.specs.Refusing.{CountsFault, IsRefusal}
+use Rattle.mg_core.specs.Refusing.{CountsFault, IsRefusal, NamesLimit}
 use Rattle.mg_core.specs.declared.parts.Core.{Core}
 use Rattle.mg_engine_changes.specs.StageLaws.{own_left, own_tells, told_from, told_of}
 use Rattle.mg_engine_changes.specs.Stages.{FailsReady, TellsOf}
@@ -30,6 +30,7 @@ pub record StopsAs {D : Type 0} (m : Meaning D) (at new : Core D) (refusal : Ref
   pub left : KeepsStore m at.store new.store ⊎ FailsReady m at.store new.store fault
   pub told : TellsOf m at.store new.store fault
   pub is : IsRefusal fault refusal
+  pub names : NamesLimit new.store.geometry.limit refusal
   pub counts : CountsFault fault at.damage new.damage at.shortages new.shortages
   pub same : new ≡ record at { store = new.store; damage = new.damage; shortages = new.shortages }
 
@@ -100,6 +101,7 @@ module _ {D : Type 0} (m : Meaning D) (counts_now : CountsNow m) where
         left = as_.left;
         told = as_.told;
         is = one.is;
+        names = subst (NamesLimit new.store.geometry.limit) (sym one.is) tt;
         counts = one.counts;
         same = one.same ∙ ap (λ (x : Pool D FireLinks). record at {
           store = x;
@@ -114,6 +116,7 @@ module _ {D : Type 0} (m : Meaning D) (counts_now : CountsNow m) where
         left = as_.left;
         told = as_.told;
         is = fails.is;
+        names = fails.names;
         counts = fails.counts;
         same = fails.same;
       }

@@ -4,7 +4,7 @@ use Rattle.mg_base.specs.Disk.{Meaning}
 use Rattle.mg_base.specs.declared.geometry.Geometry.{Geometry}
 use Rattle.mg_base.specs.declared.numbers.TxNo.{TxNo}
 use Rattle.mg_core.specs.Cores.{IsCore}
-use Rattle.mg_core.specs.Refusing.{CountsFault}
+use Rattle.mg_core.specs.Refusing.{CountsFault, NamesLimit}
 use Rattle.mg_core.specs.declared.parts.Core.{Core}
 use Rattle.mg_engine_changes.specs.BackBegun.{begins, goes, midway, opening}
 use Rattle.mg_engine_changes.specs.BackLists.{KeepsLists}
@@ -12,7 +12,7 @@ use Rattle.mg_engine_changes.specs.BackStops.{StopsReading}
 use Rattle.mg_engine_changes.specs.Backs.{BeginsBack, EndsOver}
 use Rattle.mg_engine_changes.specs.Known.{KnownOfBacks}
 use Rattle.mg_engine_changes.specs.Outcomes.{back_event}
-use Rattle.mg_engine_changes.specs.StageLaws.{fault_may}
+use Rattle.mg_engine_changes.specs.StageLaws.{fault_may, left_geometry}
 use Rattle.mg_engine_changes.specs.Stages.{TellsOf}
 use Rattle.mg_engine_changes.specs.StopsAfter.{StopsAfter, TakesSome}
 use Rattle.mg_engine_changes.specs.ToTake.{since_point}
@@ -67,7 +67,9 @@ module _ {D : Type 0} (m : Meaning D) (old begun stopped : Core D) (t : TxNo) (p
       → CountsFault stops.stopping.fault old.damage now.damage old.shortages now.shortages
       → MayAnswer m places old now (Some refusal)
   may_answer places now online told counted = fault_may m places old now stops.at.store stops.stopping.fault refusal
-      online stops.taken.on.online stops.taken.on.goes.time.never_falls stops.stopping.is told counted
+      online stops.taken.on.online stops.taken.on.goes.time.never_falls stops.stopping.is (subst (λ (g : Geometry). NamesLimit g.limit refusal)
+      (left_geometry m stops.at.store stopped.store stops.stopping.fault stops.stopping.left
+      ∙ stops.taken.on.goes.geometry) stops.stopping.names) told counted
 
 -- ---- over a history
 

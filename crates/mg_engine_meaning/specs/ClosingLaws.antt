@@ -16,7 +16,7 @@ use Rattle.mg_engine_meaning.specs.PlainTables.{HasPlainTables}
 use Rattle.mg_engine_meaning.specs.Standings.{ShowsIt, StandsFor, StandsWhile, asked_in, sessions_in, standing_of}
 use Rattle.mg_image.specs.Form.{Pages, packed_form}
 use Rattle.mg_image.specs.Histories.{HoldsDurable}
-use Rattle.mg_image.specs.Inventory.{state_at}
+use Rattle.mg_image.specs.Inventory.{next_of, state_at}
 use Rattle.mg_image.specs.Opening.{Holds, IsOpened, Opened, sound_image, unmade_image}
 use Rattle.mg_image.specs.Sound.{IsSoundBy}
 use Rattle.mg_lasting.specs.CrashStatements.{PoolLeaves, RunsLast}
@@ -34,12 +34,14 @@ use Rattle.mg_pool.specs.Pool.{KeepsContent, cache_of, shown}
 use Rattle.mg_pool.specs.declared.fault.PoolFault.{PoolFault}
 use Rattle.mg_pool.specs.declared.pool.Pool.{Pool}
 use Rattle.mg_pool_overlays.specs.Needs.{Asked, Sessions}
+use Rattle.mg_space.specs.FreePages.{HasFree}
 use Rattle.mg_space.specs.ViewLaws.{CountsNow}
 use Rattle.mg_space.specs.declared.links.FireLinks.{FireLinks}
 use Rattle.mg_survey.specs.Survey.{IsSameDisk}
 use Rattle.mg_txlist.specs.TxList.{said}
 use Rattle.mg_engine_meaning.specs.BlankLaws.{no_header}
-use Rattle.mg_engine_meaning.specs.Closings.{ClosesEngine, Ends, HasLeft, RefusesClose}
+use Rattle.mg_engine_meaning.specs.Closings.{ClosesEngine, Ends, LeavesAll, RefusesClose}
+use Rattle.mg_engine_meaning.specs.FreePages.{CoreHasFree}
 use Rattle.mg_engine_meaning.specs.OpenedLaws.{content_leaves}
 
 -- ---- page writes
@@ -216,6 +218,13 @@ module _ {D : Type 0} (m : Meaning D) (counts : CountsNow m) (holds_one : HoldsO
     as_shown = ap (λ (n : ℕ). page_at n image) (sym dirty_size)
         ∙ fun_ext (λ p. ends.holds shows.image image (record { told = stands.tells; held = shows.held }) held p)
 
+    -- which are those of which the cache's next number is told
+    same_pages : page_at size image ≡ shown old.store.dirty shows.lasts.image
+    same_pages =
+        let both : Some shows.image ≡ Some shows.lasts.image = sym shows.held ∙ shows.lasts.held in
+        let same : shows.image ≡ shows.lasts.image = cc in
+        as_shown ∙ ap (shown old.store.dirty) same
+
     no_blank : page_at size image 0 ≡ blank size → ⊥
     no_blank none = no_header size size (shown old.store.dirty shows.image) shows.stands.shows.sound.header
         (sym (ap (λ (ps : Pages). ps 0) as_shown) ∙ none)
@@ -241,13 +250,22 @@ module _ {D : Type 0} (m : Meaning D) (counts : CountsNow m) (holds_one : HoldsO
         (subst (λ (x : ℕ → TxState). IsSoundBy packed_form size x (page_at size image) layout r) (states chosen)
         sound)) its there
 
-    its_left : HasLeft m new.disk size o h (durable_count h)
-    its_left = record {
-      image = image;
-      settled = record { tells = record { told = told; held = held }; only = only };
-      holds = all_held;
-      sound = not_blank size (page_at size image) all_held.opened all_held.holds no_blank;
-      plain = plain;
+    -- as many pages are free on it as the cache tells
+    left_free : (count : ℕ) → CoreHasFree m old count → HasFree old.store.geometry (page_at size image) count
+    left_free count has = subst (λ (ps : Pages). HasFree old.store.geometry ps count) (sym as_shown)
+        (has shows.image (record { told = stands.tells; held = shows.held })).free
+
+    all_left : LeavesAll m old new.disk o h
+    all_left = record {
+      left = record {
+        image = image;
+        settled = record { tells = record { told = told; held = held }; only = only };
+        holds = all_held;
+        sound = not_blank size (page_at size image) all_held.opened all_held.holds no_blank;
+        plain = plain;
+        next = ap next_of same_pages ∙ shows.lasts.lasts.next;
+      };
+      free = left_free;
     }
 
 -- ---- the call
@@ -317,7 +335,7 @@ module _ {D : Type 0} (m : Meaning D) (counts : CountsNow m) (holds_one : HoldsO
   its_end new (Ok x) (Ok y) ends is = (
     ends.online,
     ends.steady,
-    λ o h stands. its_left m counts holds_one runs leaves begin old core_is o h stands
+    λ o h stands. all_left m counts holds_one runs leaves begin old core_is o h stands
         (shows_of o h stands ends.online) new ends,
   )
   its_end new (Ok x) (Err refusal) ends is = absurd is

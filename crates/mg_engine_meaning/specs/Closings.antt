@@ -7,25 +7,28 @@ use Rattle.mg_engine_meaning.specs.PlainTables.{HasPlainTables}
 use Rattle.mg_engine_meaning.specs.Standings.{StandsFor}
 use Rattle.mg_image.specs.Form.{packed_form}
 use Rattle.mg_image.specs.Histories.{HoldsDurable, durable_committed, newest_at}
-use Rattle.mg_image.specs.Inventory.{state_at}
+use Rattle.mg_image.specs.Inventory.{next_of, state_at}
 use Rattle.mg_image.specs.Opening.{IsOpened}
 use Rattle.mg_lasting.specs.Crashes.{HoldsAcknowledged, LeavesSince}
 use Rattle.mg_model.specs.Answers.{is_committed}
 use Rattle.mg_model.specs.Changes.{row_at}
 use Rattle.mg_model.specs.History.{Entries}
 use Rattle.mg_model.specs.Legal.{durable_changes, durable_count, durable_database, durable_limbo, is_limbo}
-use Rattle.mg_model.specs.Machine.{opening_rows, opening_state, own}
+use Rattle.mg_model.specs.Machine.{next_number, opening_rows, opening_state, own}
 use Rattle.mg_model.specs.declared.opening.Opening.{Opening}
 use Rattle.mg_model.specs.declared.refusal.Refusal.{Refusal}
 use Rattle.mg_model.specs.declared.refusal.Refusal.TheVariants.{DiskWrite, Offline}
 use Rattle.mg_survey.specs.Survey.{IsSameDisk}
 use Rattle.mg_value.specs.declared.value.Value.{Value}
+use Rattle.mg_space.specs.FreePages.{HasFree}
+use Rattle.mg_engine_meaning.specs.FreePages.{CoreHasFree}
 use Rattle.mg_engine_meaning.specs.Openings.{IsSettledOn}
 
 -- ---- what is left
 
 -- A disk has what an engine left that stood for a history: it tells its images, and nothing is pending; its image is
--- sound, its tables are plain, and it holds what the history has after its k-th durable event.
+-- sound, its tables are plain, it holds what the history has after its k-th durable event, and the number that it
+-- draws next is the history's.
 pub record HasLeft {D : Type 0} (m : Meaning D) (disk : D) (size : ℕ) (o : Opening) (h : Entries) (k : ℕ)
     : Type 0 where
   pub image : Image
@@ -33,6 +36,13 @@ pub record HasLeft {D : Type 0} (m : Meaning D) (disk : D) (size : ℕ) (o : Ope
   pub holds : HoldsDurable packed_form size (page_at size image) o h k
   pub sound : IsOpened packed_form size (page_at size image) holds.opened
   pub plain : HasPlainTables size (state_at size (page_at size image)) (page_at size image)
+  pub next : next_of (page_at size image) ≡ next_number o h
+
+-- An engine has left what its history has after its last durable event, and as many pages are free as its cache tells.
+pub record LeavesAll {D : Type 0} (m : Meaning D) (old : Core D) (new : D) (o : Opening) (h : Entries) : Type 0 where
+  pub left : HasLeft m new old.store.geometry.size o h (durable_count h)
+  pub free : (count : ℕ) → CoreHasFree m old count
+      → HasFree old.store.geometry (page_at old.store.geometry.size left.image) count
 
 -- why a database is not closed: an earlier page write had failed, and nothing was written; or one failed now, or the
 -- settling
@@ -45,8 +55,7 @@ RefusesClose m old new refusal = ⊥
 -- an engine has left its disk, and no call of that has failed; or the closing is refused
 abbrev pub Ends : {D : Type 0} → Meaning D → Core D → D → Result (Unit {0}) Refusal → Type 0
 Ends m old new (Ok x) = (old.store.offline ≡ None) × (m.faults new ≡ m.faults old.store.disk)
-    × ((o : Opening) (h : Entries) → StandsFor m old o h
-    → HasLeft m new old.store.geometry.size o h (durable_count h))
+    × ((o : Opening) (h : Entries) → StandsFor m old o h → LeavesAll m old new o h)
 Ends m old new (Err refusal) = RefusesClose m old new refusal
 
 -- An engine was closed, or not: the disk comes back, and each image that a crash since the start might have left holds
@@ -70,8 +79,10 @@ pub record GoesOnFrom (o : Opening) (h : Entries) (k : ℕ) (later : Opening) : 
   pub changes : (t : ℕ) (name : List ℕ) (key : Value) → durable_limbo o h k t ≡ true
       → newest_at (own later [] t) name key ≡ newest_at (durable_changes o h k t) name key
 
--- An engine stands for a history that has no entry, and begins with what another one has after its k-th durable event.
+-- An engine stands for a history that has no entry, and begins with what another one has after its k-th durable event;
+-- it draws the number next that the other one would have drawn.
 pub record TakesUp {D : Type 0} (m : Meaning D) (core : Core D) (o : Opening) (h : Entries) (k : ℕ) : Type 0 where
   pub later : Opening
   pub goes_on : GoesOnFrom o h k later
+  pub next : later.next.0 ≡ next_number o h
   pub stands : StandsFor m core later []

@@ -14,14 +14,17 @@ use Rattle.mg_header.specs.declared.header.Header.{Header}
 use Rattle.mg_header.specs.declared.header.TheConstants.{PAGE_SIZE_AT}
 use Rattle.mg_image.specs.Form.{packed_form}
 use Rattle.mg_base.specs.declared.transaction.TxState.TheVariants.{Dead}
-use Rattle.mg_image.specs.Histories.{Begins, durable_committed}
+use Rattle.mg_image.specs.Histories.{Begins, HoldsDurable, durable_committed}
+use Rattle.mg_image.specs.Inventory.{next_of, state_at}
+use Rattle.mg_image.specs.Opening.{IsOpened}
 use Rattle.mg_image.specs.Sound.{HasHeader}
 use Rattle.mg_image_openings.specs.Begun.{begins, begun, whole}
 use Rattle.mg_image_openings.specs.Openings.{packed_fitting}
 use Rattle.mg_model.specs.Answers.{is_committed}
 use Rattle.mg_model.specs.History.{Entries}
 use Rattle.mg_model.specs.Laws.{OpeningsBegin}
-use Rattle.mg_model.specs.Legal.{IsLegal, MayBegin, durable_count, durable_limbo, is_limbo}
+use Rattle.mg_lasting.specs.CrashLaws.{after_legal}
+use Rattle.mg_model.specs.Legal.{IsLegal, MayBegin, after_durable, durable_count, durable_limbo, is_limbo}
 use Rattle.mg_model.specs.Machine.{opening_state}
 use Rattle.mg_model.specs.NumberLaws.{undrawn_is_dead}
 use Rattle.mg_model.specs.Openings.{IsOpening}
@@ -32,6 +35,7 @@ use Rattle.mg_engine_meaning.specs.BlankLaws.{header_is_made, no_header}
 use Rattle.mg_engine_meaning.specs.Closings.{GoesOnFrom, HasLeft, TakesUp}
 use Rattle.mg_engine_meaning.specs.GrowingLaws.{later_grows}
 use Rattle.mg_engine_meaning.specs.OpenedLaws.{settled_still}
+use Rattle.mg_engine_meaning.specs.PlainTables.{HasPlainTables}
 use Rattle.mg_engine_meaning.specs.CallLaws.{LeftIsTakenUp, RunsCompose}
 use Rattle.mg_engine_meaning.specs.Openings.{BeginsWith, IsOpenedOver, IsSettledOn}
 
@@ -57,54 +61,57 @@ one_size size other image header sound reads =
 
 -- ---- what the later history begins with
 
-module _ (begin : OpeningsBegin) (own_new : OwnRowsAreNew) {D : Type 0} (m : Meaning D) (disk : D) (size : ℕ)
-    (o : Opening) (h : Entries) (k : ℕ) (opening : MayBegin o) (legal : IsLegal o h) (grows : CatalogGrows o h)
-    (left : HasLeft m disk size o h k) where
+-- A sound image holds what a history has after its k-th durable event, up to which that is legal.
+module _ (begin : OpeningsBegin) (own_new : OwnRowsAreNew) (size : ℕ) (image : Image) (o : Opening) (h : Entries)
+    (k : ℕ) (opening : MayBegin o) (legal : IsLegal o (after_durable h k)) (grows : CatalogGrows o h)
+    (held : HoldsDurable packed_form size (page_at size image) o h k)
+    (is : IsOpened packed_form size (page_at size image) held.opened) where
   abbrev later : Opening
-  later = begun packed_form packed_fitting size (page_at size left.image) left.holds.opened left.sound
+  later = begun packed_form packed_fitting size (page_at size image) held.opened is
 
-  its : Begins left.holds.opened (begun packed_form packed_fitting size (page_at size left.image) left.holds.opened
-      left.sound)
-  its = begins packed_form packed_fitting size (page_at size left.image) left.holds.opened left.sound
+  its : Begins held.opened (begun packed_form packed_fitting size (page_at size image) held.opened is)
+  its = begins packed_form packed_fitting size (page_at size image) held.opened is
 
-  its_whole : IsOpening (begun packed_form packed_fitting size (page_at size left.image) left.holds.opened left.sound)
-  its_whole = whole packed_form packed_fitting size (page_at size left.image) left.holds.opened left.sound
+  its_whole : IsOpening (begun packed_form packed_fitting size (page_at size image) held.opened is)
+  its_whole = whole packed_form packed_fitting size (page_at size image) held.opened is
 
-  pub begins_with : BeginsWith size left.image
-      (begun packed_form packed_fitting size (page_at size left.image) left.holds.opened left.sound)
-  begins_with = record {
-    opened = left.holds.opened;
-    sound = left.sound;
+  pub begins_with : HasPlainTables size (state_at size (page_at size image)) (page_at size image)
+      → BeginsWith size image (begun packed_form packed_fitting size (page_at size image) held.opened is)
+  begins_with plain = record {
+    opened = held.opened;
+    sound = is;
     begins = its;
     whole = its_whole;
     limit = refl;
-    grows = later_grows size (page_at size left.image) o h k opening legal grows own_new left.holds
-        left.sound;
-    plain_tables = left.plain;
+    grows = later_grows size (page_at size image) o h k opening legal grows own_new held is;
+    plain_tables = plain;
   }
 
-  state_now : (t : ℕ) → (t < left.holds.opened.next) ⊎ (left.holds.opened.next ≤ t)
+  state_now : (t : ℕ) → (t < held.opened.next) ⊎ (held.opened.next ≤ t)
       → (is_committed (opening_state later t) ≡ durable_committed o h k t)
       × (is_limbo (opening_state later t) ≡ durable_limbo o h k t)
   state_now t (inl below) = (
-    ap is_committed (sym (its.state t below)) ∙ left.holds.committed t below,
-    ap is_limbo (sym (its.state t below)) ∙ left.holds.limbo t below,
+    ap is_committed (sym (its.state t below)) ∙ held.committed t below,
+    ap is_limbo (sym (its.state t below)) ∙ held.limbo t below,
   )
   state_now t (inr past) =
       let dead : opening_state later t ≡ Dead = undrawn_is_dead later (begin later its_whole) [] tt t
       (subst (λ (n : ℕ). n ≤ t) its.next past) in (
-        ap is_committed dead ∙ sym (left.holds.undrawn t past).0,
-        ap is_limbo dead ∙ sym (left.holds.undrawn t past).1,
+        ap is_committed dead ∙ sym (held.undrawn t past).0,
+        ap is_limbo dead ∙ sym (held.undrawn t past).1,
       )
 
-  pub goes_on_from : GoesOnFrom o h k
-      (begun packed_form packed_fitting size (page_at size left.image) left.holds.opened left.sound)
+  pub goes_on_from : GoesOnFrom o h k (begun packed_form packed_fitting size (page_at size image) held.opened is)
   goes_on_from = record {
-    rows = λ name key. sym (its.rows name key) ∙ left.holds.rows name key;
-    committed = λ t. (state_now t (cases_lt t left.holds.opened.next)).0;
-    limbo = λ t. (state_now t (cases_lt t left.holds.opened.next)).1;
-    changes = λ t name key limbo. sym (its.limbo t name key) ∙ left.holds.changes t name key limbo;
+    rows = λ name key. sym (its.rows name key) ∙ held.rows name key;
+    committed = λ t. (state_now t (cases_lt t held.opened.next)).0;
+    limbo = λ t. (state_now t (cases_lt t held.opened.next)).1;
+    changes = λ t name key limbo. sym (its.limbo t name key) ∙ held.changes t name key limbo;
   }
+
+  pub next_is : next_of (page_at size image)
+      ≡ (begun packed_form packed_fitting size (page_at size image) held.opened is).next.0
+  next_is = sym is.next ∙ its.next
 
 -- ---- two runs
 
@@ -113,12 +120,15 @@ takes_up : OpeningsBegin → OwnRowsAreNew → {D : Type 0} (m : Meaning D) → 
     → HasLeft m disk size o h k → IsOpenedOver m disk limit core → TakesUp m core o h k
 takes_up begin own_new m counts core disk limit size o h k opening legal grows left opened = record {
   later = begun packed_form packed_fitting size (page_at size left.image) left.holds.opened left.sound;
-  goes_on = goes_on_from begin own_new m disk size o h k opening legal grows left;
+  goes_on = goes_on_from begin own_new size left.image o h k opening (after_legal o h k legal) grows left.holds left.sound;
+  next = sym (next_is begin own_new size left.image o h k opening (after_legal o h k legal) grows left.holds left.sound)
+      ∙ left.next;
   stands = opened.stands left.image
       (begun packed_form packed_fitting size (page_at size left.image) left.holds.opened left.sound) settled
       (subst (λ (n : ℕ). BeginsWith n left.image
       (begun packed_form packed_fitting size (page_at size left.image) left.holds.opened left.sound)) (sym same_size)
-      (begins_with begin own_new m disk size o h k opening legal grows left));
+      (begins_with begin own_new size left.image o h k opening (after_legal o h k legal) grows left.holds left.sound
+      left.plain));
 }
   where
     header : HasHeader size (page_at size left.image)
@@ -147,7 +157,7 @@ left_taken_up D m counts begin own_new core disk limit size o h k opening legal 
 pub runs_compose : (D : Type 0) (m : Meaning D) → CountsNow m → OpeningsBegin → OwnRowsAreNew → RunsCompose D m
 runs_compose D m counts begin own_new old core disk limit o h ends opened stands =
     takes_up begin own_new m counts core disk limit old.store.geometry.size o h (durable_count h)
-    (begin o shows.stands.opening) shows.stands.legal stands.grows (ends.2 o h stands) opened
+    (begin o shows.stands.opening) shows.stands.legal stands.grows (ends.2 o h stands).left opened
   where
     shows : ShowsIt m old o h (standing_of old stands.numbers stands.tables)
     shows = subst (StandsWhile m old o h (standing_of old stands.numbers stands.tables)) ends.0 stands.stands

@@ -3,6 +3,7 @@ use Rattle.std.proofs.Common.{◌≡◌, ◌⊎◌, inl, inr, ◌≤◌, ◌<◌
 use Rattle.std.proofs.Math.Nat.{min-eq_left, min-eq_right}
 use Rattle.std.proofs.lemmas.Bool.{cases_lt}
 use Rattle.mg_base.specs.Disk.{Meaning, Rose}
+use Rattle.mg_base.specs.declared.geometry.Geometry.{Geometry}
 use Rattle.mg_base.specs.declared.numbers.TxNo.{TxNo}
 use Rattle.mg_model.specs.declared.answer.Answer.TheVariants.{No}
 use Rattle.mg_model.specs.declared.event.Event.TheVariants.{Begin}
@@ -36,7 +37,8 @@ use Rattle.mg_txlist.specs.Drawing.{FailsDraw, SaysSame, not_changed, only_read}
 use Rattle.mg_txlist.specs.declared.list.TxList.{TxList}
 use Rattle.mg_core.specs.declared.parts.Core.{Core}
 use Rattle.mg_core.specs.Beginning.{FailsBegin}
-use Rattle.mg_core.specs.Refusing.{CountsFault, IsRefusal, OneMore}
+use Rattle.mg_core.specs.RefusingLaws.{full_is}
+use Rattle.mg_core.specs.Refusing.{CountsFault, IsRefusal, NamesLimit, OneMore}
 use Rattle.mg_engine_meaning.specs.FrameLaws.{commits_of, keeps_of, sessions_of, tables_of, works_same}
 use Rattle.mg_engine_meaning.specs.Frames.{GivesEvent, MayAnswer, StoreGoesOn}
 use Rattle.mg_engine_meaning.specs.Meaning.{Places, means}
@@ -215,19 +217,32 @@ module _ {D P : Type 0} (m : Meaning D) (places : Places P) (idle_goes : IdleGoe
           write_failed n offline failed.ready failed.keeps
           (subst (λ (k : ℕ). FailsWrites m failed.ready store (faults.DiskWrite k)) count failed.fails) refusal may
 
+  -- the page limit stays
+  same_geometry : (fault : SpaceFault) → FailsDraw m old.store store fault → store.geometry ≡ old.store.geometry
+  same_geometry fault left = at (drawing_left m old.store store fault left)
+    where
+      at : KeepsStore m old.store store ⊎ FailsReady m old.store store fault → store.geometry ≡ old.store.geometry
+      at (inl keeps) = keeps.geometry
+      at (inr failed) = (fails_goes m failed.ready store (faults.DiskWrite failed.count) failed.fails).geometry
+          ∙ failed.keeps.geometry
+
   pub fault_gives : HasCounts old → (fault : SpaceFault) (refusal : Refusal) → IsRefusal fault refusal
-      → FailsDraw m old.store store fault
+      → NamesLimit store.geometry.limit refusal → FailsDraw m old.store store fault
       → TellsFault m old.store store (pool_answer {T = TxNo} (Err fault))
       → CountsFault fault old.damage damage old.shortages shortages → Given refusal
-  fault_gives counts (space.Full limit) refusal is left told counted = subst Given (sym is)
+  fault_gives counts (space.Full most) refusal is names left told counted = subst Given (sym (full_is refusal is).1)
       (let rose = one_rose old.shortages shortages counts.shortages counted.1 in
-      kept_by (refusals.DatabaseFull limit) (space.Full limit) left (λ n wrong. absurd cc) (
+      kept_by (refusals.DatabaseFull (full_is refusal is).0) (space.Full most) left (λ n wrong. absurd cc) (
         refl,
         (let same_ = counted.0 in omega (arith, same_)),
         rose.0,
-        record { cause = rose.1; offline = rw online tt; down = told.1 ∙ sym online },
+        record { cause = (rose.1, limit_named); offline = rw online tt; down = told.1 ∙ sym online },
       ))
-  fault_gives counts (space.Damaged d) refusal is left told counted = subst Given (sym is)
+    where
+      limit_named : (full_is refusal is).0 ≡ old.store.geometry.limit
+      limit_named = subst (NamesLimit old.store.geometry.limit) (full_is refusal is).1 (subst (λ (g : Geometry). NamesLimit g.limit refusal)
+          (same_geometry (space.Full most) left) names)
+  fault_gives counts (space.Damaged d) refusal is names left told counted = subst Given (sym is)
       (let rose = one_rose old.damage damage counts.damage counted.0 in
       kept_by (refusals.Damaged d.page d.field d.found d.wanted) (space.Damaged d) left (λ n wrong. absurd cc) (
         refl,
@@ -235,7 +250,7 @@ module _ {D P : Type 0} (m : Meaning D) (places : Places P) (idle_goes : IdleGoe
         (let same_ = counted.1 in omega (arith, same_)),
         record { cause = rose.1; offline = rw online tt; down = told.1 ∙ sym online },
       ))
-  fault_gives counts (space.Pool (faults.Absent pages)) refusal is left told counted = subst Given (sym is)
+  fault_gives counts (space.Pool (faults.Absent pages)) refusal is names left told counted = subst Given (sym is)
       (let rose = one_rose old.damage damage counts.damage counted.0 in
       kept_by (refusals.Damaged (record { 0 = 0 }) Presence pages pages) (space.Pool (faults.Absent pages)) left
       (λ n wrong. absurd cc) (
@@ -244,23 +259,23 @@ module _ {D P : Type 0} (m : Meaning D) (places : Places P) (idle_goes : IdleGoe
         (let same_ = counted.1 in omega (arith, same_)),
         record { cause = rose.1; offline = rw online tt; down = told.1 ∙ sym online },
       ))
-  fault_gives counts (space.Pool (faults.DiskRead n)) refusal is left told counted = subst Given (sym is)
+  fault_gives counts (space.Pool (faults.DiskRead n)) refusal is names left told counted = subst Given (sym is)
       (kept_by (refusals.DiskRead n) (space.Pool (faults.DiskRead n)) left (λ k wrong. absurd cc) (
         refl,
         (let same_ = counted.0 in omega (arith, same_)),
         (let same_ = counted.1 in omega (arith, same_)),
         record { cause = told.2.2; offline = rw online tt; down = told.1 ∙ sym online },
       ))
-  fault_gives counts (space.Pool (faults.DiskWrite n)) refusal is left told counted = subst Given (sym is)
+  fault_gives counts (space.Pool (faults.DiskWrite n)) refusal is names left told counted = subst Given (sym is)
       (written_by (refusals.DiskWrite n) n left told.1 (
         refl,
         (let same_ = counted.0 in omega (arith, same_)),
         (let same_ = counted.1 in omega (arith, same_)),
         record { cause = told.2.2; offline = rw online tt; down = told.1 },
       ))
-  fault_gives counts (space.Pool (faults.Offline n)) refusal is left told counted =
+  fault_gives counts (space.Pool (faults.Offline n)) refusal is names left told counted =
       let both : None ≡ Some n = sym online ∙ told.0 in absurd cc
-  fault_gives counts (space.Pool faults.Memory) refusal is left told counted = subst Given (sym is)
+  fault_gives counts (space.Pool faults.Memory) refusal is names left told counted = subst Given (sym is)
       (kept_by refusals.Memory (space.Pool faults.Memory) left (λ k wrong. absurd cc) (
         refl,
         (let same_ = counted.0 in omega (arith, same_)),
@@ -277,5 +292,5 @@ pub failed_gives : {D P : Type 0} (m : Meaning D) (places : Places P) → IdleGo
 failed_gives {D} m places idle_goes on quiet begin last failing old new session mode refusal counts fails =
     subst (λ (c : Core D). GivesEvent m places old c (Begin session mode) (No refusal) (Some refusal) None None None
     None) (sym fails.same) (fault_gives m places idle_goes on quiet begin last failing old session mode new.store
-    new.list new.damage new.shortages fails.online fails.says counts fails.fault refusal fails.is fails.left fails.told
-    fails.counts)
+    new.list new.damage new.shortages fails.online fails.says counts fails.fault refusal fails.is fails.names
+    fails.left fails.told fails.counts)

@@ -67,6 +67,7 @@ module _ {D P : Type 0} (m : Meaning D) (places : Places P) (old new : Core D) w
     tells = goes.time.tells;
     most_writes = goes.time.most_writes;
     time = λ told. record { later = goes.time.later told; keeps = goes.time.keeps told };
+    page_limit = ap (λ (g : Geometry). g.limit) goes.geometry;
     sizes = λ size. ap (λ (g : Geometry). g.size == size) goes.geometry;
     holds = λ o h least c holds. subst (λ (n : ℕ). HoldsFrom packed_form n o (asked h) least c)
         (sym goes.size) holds;

@@ -32,15 +32,6 @@ use Rattle.mg_value.specs.declared.value.Value.{Value}
 
 -- ---- the history up to a durable event
 
-pub after_legal : (o : Opening) (h : Entries) (k : ℕ) → IsLegal o h → IsLegal o (after_durable h k)
-after_legal o [] k legal = tt
-after_legal o (e ∷ h) k legal =
-    at (is_durable e && nat_lt (durable_count h) k) (after_legal o h k legal.1)
-  where
-    at : (b : Bool) → IsLegal o (after_durable h k) → IsLegal o (if b then e ∷ h else after_durable h k)
-    at true rest = legal
-    at false rest = rest
-
 after_makes : (h : Entries) (k : ℕ) → EachMakes h → EachMakes (after_durable h k)
 after_makes [] k each = tt
 after_makes (e ∷ h) k each = at (is_durable e && nat_lt (durable_count h) k) (after_makes h k each.1)
@@ -106,8 +97,8 @@ limbo_drawn size pages t is = settled_drawn size pages t some (subst IsSettled (
 
 -- ---- the law
 
-module _ (size : ℕ) (pages : Pages) (o : Opening) (h : Entries) (k : ℕ) (opening : MayBegin o) (legal : IsLegal o h)
-    (grows : CatalogGrows o h) (own_new : OwnRowsAreNew) (held : HoldsDurable packed_form size pages o h k)
+module _ (size : ℕ) (pages : Pages) (o : Opening) (h : Entries) (k : ℕ) (opening : MayBegin o)
+    (legal : IsLegal o (after_durable h k)) (grows : CatalogGrows o h) (own_new : OwnRowsAreNew) (held : HoldsDurable packed_form size pages o h k)
     (is : IsOpened packed_form size pages held.opened) where
   abbrev pub later : Opening
   later = begun packed_form packed_fitting size pages held.opened is
@@ -149,7 +140,7 @@ module _ (size : ℕ) (pages : Pages) (o : Opening) (h : Entries) (k : ℕ) (ope
 
     new : IsSome (row_at (own o (after_durable h k) t) catalog_name key)
         × (row_at (database o (after_durable h k)) catalog_name key ≡ None)
-    new = own_new o (after_durable h k) t key opening (after_legal o h k legal) grows_until
+    new = own_new o (after_durable h k) t key opening legal grows_until
         (open_too (state_of o (after_durable h k) t) durable) at_key.has
 
     makes_row : IsSome (told_of gives.table (records.change_in gives.e))

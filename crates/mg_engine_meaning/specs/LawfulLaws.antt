@@ -151,6 +151,7 @@ shorter size o h e least c quiet holds = record {
   at_least = holds.at_least;
   at_most = subst (λ (n : ℕ). holds.k ≤ n) (count_quiet h e quiet) holds.at_most;
   holds = holds_cut packed_form size (page_at size c) o (e ∷ h) h holds.k holds.k cut holds.holds;
+  legal = subst (IsLegal o) (sym cut) holds.legal;
 }
   where
     cut : after_durable h holds.k ≡ after_durable (e ∷ h) holds.k
@@ -180,6 +181,7 @@ holds_on {D} m places = record {
     at_least = let most = holds.at_least in omega (arith, low, most);
     at_most = holds.at_most;
     holds = holds.holds;
+    legal = holds.legal;
   };
 }
   where

@@ -100,6 +100,7 @@ means m places = record {
   faults = λ core. m.faults core.store.disk;
   damage = λ core. core.damage;
   shortages = λ core. core.shortages;
+  page_limit = λ core. core.store.geometry.limit;
   has_free = λ core count. CoreHasFree m core count;
   reserves_ends = true;
   asked = λ core. m.asked core.store.disk;

@@ -7,6 +7,7 @@ use Rattle.mg_base.specs.Moments.{LeavesOnly}
 use Rattle.mg_base.specs.declared.damage.Damaged.{Damaged}
 use Rattle.mg_base.specs.declared.geometry.Geometry.{Geometry}
 use Rattle.mg_core.specs.Opening.{FailsToRead, IsOpenRefusal, RefusesOpen, unprepared, unread}
+use Rattle.mg_core.specs.RefusingLaws.{full_is}
 use Rattle.mg_core.specs.Refusing.{IsRefusal}
 use Rattle.mg_database.specs.Loading.{OpensAlone, RefusesPages}
 use Rattle.mg_database.specs.Preparing.{FailsToPrepare, no_memory, unasked, unmade}
@@ -34,7 +35,7 @@ use Rattle.mg_engine_meaning.specs.RefusalLaws.{AreCounted, HasCatalog, is_datab
 -- a fault of the cache is no judgement on the disk
 pool_free : (fault : SpaceFault) (refusal : Refusal) → OpensAlone {T = Unit {0}} (Err (Space fault))
     → IsRefusal fault refusal → ((d : Damaged) → fault ≡ space.Damaged d → ⊥) → IsNoJudgement refusal
-pool_free (space.Full limit) refusal own is not_ = subst IsNoJudgement (sym is) tt
+pool_free (space.Full limit) refusal own is not_ = subst IsNoJudgement (sym (full_is refusal is).1) tt
 pool_free (space.Damaged d) refusal own is not_ = absurd (not_ d refl)
 pool_free (space.Pool (pool_faults.DiskRead n)) refusal own is not_ = subst IsNoJudgement (sym is) tt
 pool_free (space.Pool (pool_faults.DiskWrite n)) refusal own is not_ = subst IsNoJudgement (sym is) tt

@@ -140,6 +140,7 @@ module _ {D P : Type 0} (m : Meaning D) (places : Places P) (reads : ReadsGoOn D
       tells = keeps.tells;
       most_writes = keeps.most_writes;
       time = λ told. record { later = (keeps.time told).later; keeps = (keeps.time told).keeps };
+      page_limit = keeps.page_limit;
       sizes = keeps.sizes;
       holds = keeps.holds;
       given = keeps.given;

@@ -49,6 +49,7 @@ holds_back form size o h t c holds = record {
   at_least = holds.at_least;
   at_most = holds.at_most;
   holds = holds_cut form size (page_at size c) o (asked (rolling t ∷ h)) (asked h) holds.k holds.k refl holds.holds;
+  legal = holds.legal;
 }
 
 module _ (o : Opening) (h : Entries) (e : Entry) (point : Point) (s : Standing) (has_asked : Asked) (t : ℕ)

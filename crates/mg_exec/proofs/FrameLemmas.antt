@@ -18,6 +18,7 @@ frames_quiet m old new t refusal cause frames quiet = record {
   down = frames.down;
   tells = frames.tells;
   most_writes = frames.most_writes;
+  page_limit = frames.page_limit;
   time = frames.time;
   sizes = frames.sizes;
   given = frames.given;
@@ -39,6 +40,7 @@ frames_none m r t refusal cause = record {
   down = inl refl;
   tells = refl;
   most_writes = refl;
+  page_limit = refl;
   time = λ told. record { later = omega arith; keeps = λ t c within was. was };
   sizes = λ size. refl;
   given = λ table was. was;

@@ -52,7 +52,7 @@ use Rattle.mg_transcript.specs.Statements.{filter_of, made_of, reads, rows_found
 use Rattle.mg_transcript.specs.Steps.{Follows, IsFind, IsRead, Marks, answers_so, falls_short, faults, finds, finds_not, has_fault, refused, stops, visits, writes_so}
 use Rattle.mg_exec_courses.specs.Courses.{IsBoundHere, IsTurned, ReadsTell, StaysActive, Tells}
 use Rattle.mg_exec_courses.specs.InsertLaws.{events_told}
-use Rattle.mg_exec_courses.specs.TestLaws.{outside_of}
+use Rattle.mg_transcript.specs.OutsideLaws.{refused_outside}
 use Rattle.mg_exec_courses.specs.WriteLaws.{marks_tell}
 
 -- ---- a bound statement
@@ -318,7 +318,7 @@ module _ {R P : Type 0} (m : Means R P) (new : R) (o : Opening) (h : Entries) (t
       subst (Tells m new o h t s (Begun s taken)) (sym so) (record {
         after = h;
         comes = refused refusal;
-        steps = stops s taken refusal (outside_of o h t.0 refusal active refused_);
+        steps = stops s taken refusal (refused_outside o h t.0 refusal active refused_);
         stands = stands;
         stays = tt;
         active = λ was. ap is_active was;

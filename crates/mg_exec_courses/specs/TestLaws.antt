@@ -32,20 +32,13 @@ use Rattle.mg_exec.specs.Phases.{is_insert, is_writing, may_not_write}
 use Rattle.mg_exec.specs.Starting.{IsStarted, IsWhyNot, Tests, it_writes, no_memory, no_table, not_bound, not_told}
 use Rattle.mg_transcript.specs.Courses.{Begun}
 use Rattle.mg_transcript.specs.Statements.{binding_fault, columns_in, fault_of, first_of, key_in, looks, mode_fault, reads, table_fault, table_of, writes}
+use Rattle.mg_transcript.specs.OutsideLaws.{refused_outside}
 use Rattle.mg_transcript.specs.Steps.{is_outside}
 use Rattle.mg_exec_courses.specs.Courses.{IsBoundHere, IsCourse, IsOutsideFault, IsTestTold, TestsTell}
 use Rattle.mg_exec.specs.declared.phase.NewTable.{NewTable}
 use Rattle.mg_exec_courses.specs.InsertLaws.{bound_insert}
 
 -- ---- refusals from outside
-
--- an active transaction is refused from outside alone
-pub outside_of : (o : Opening) (h : Entries) (t : ℕ) (refusal : Refusal) → state_of o h t ≡ Active
-    → IsRefused o h t refusal → is_outside refusal ≡ true
-outside_of o h t (refusals.NotActive state) active refused =
-    absurd (false≢true (sym refused.1 ∙ ap is_active (sym refused.0 ∙ active)))
-outside_of o h t (refusals.DatabaseFull limit) active never = absurd never
-outside_of o h t refusal active refused = refused
 
 from_outside : (refusal : Refusal) → is_outside refusal ≡ true → IsOutsideFault (Engine refusal)
 from_outside refusal outside = record { refusal = refusal; is = refl; outside = outside }
@@ -162,7 +155,7 @@ module _ {R P : Type 0} (m : Means R P) (new : R) (o : Opening) (h : Entries) (t
     why_told fault (it_writes is) = inl (by_mode read_only (shape_seen o h t.0 (table_of s)) size s is)
     why_told fault (no_table may is) = inl (seen_as None is
         ∙ by_table read_only None size s (Engine refusals.NoTable) may (its_fault s names))
-    why_told fault (not_told refusal may refused) = inr (from_outside refusal (outside_of o h t.0 refusal active refused))
+    why_told fault (not_told refusal may refused) = inr (from_outside refusal (refused_outside o h t.0 refusal active refused))
     why_told fault (not_bound shape refusal may is refuses) = inl (seen_as (Some shape) is
         ∙ by_binding read_only (Some shape) size s (Some refusal) may (no_fault s names shape) refuses)
     why_told fault no_memory = inr (from_outside refusals.Memory refl)
@@ -227,7 +220,7 @@ module _ {R P : Type 0} (m : Means R P) (new : R) (o : Opening) (h : Entries) (t
     why_no_table fault (taken may is) = inl (by_table read_only (shape_seen o h t.0 name) size (Creation name columns)
         (Engine refusals.TableExists) may (taken_fault (shape_seen o h t.0 name) is))
     why_no_table fault (not_read refusal may other refused) =
-        inr (from_outside refusal (outside_of o h t.0 refusal active refused))
+        inr (from_outside refusal (refused_outside o h t.0 refusal active refused))
     why_no_table fault (not_lawful refusal may is refuses) =
         inl (free_fault (shape_seen o h t.0 name) is (Some refusal) may refuses)
     why_no_table fault short_of_memory = inr (from_outside refusals.Memory refl)

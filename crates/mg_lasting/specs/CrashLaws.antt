@@ -1,6 +1,6 @@
 -- Images that crashes leave hold the history, also as it goes on.
 use Rattle.std.proofs.Common.{◌≡◌, ◌≤◌, ◌+◌, ◌&&◌, ◌⊎◌, inl, inr, ℕ, Bool, true, false, ◌∷◌, refl, sym, ap, ◌∙◌, subst, arith, nat_lt, le-ltb}
-use Rattle.std.specs.Prelude.{cond}
+use Rattle.std.specs.Prelude.{[], cond, if◌then◌else◌}
 use Rattle.std.proofs.Math.Path.{fun_ext}
 use Rattle.std.proofs.lemmas.Bool.{false≢true}
 use Rattle.mg_base.specs.Disk.{Meaning}
@@ -13,7 +13,7 @@ use Rattle.mg_model.specs.declared.opening.Opening.{Opening}
 use Rattle.mg_model.specs.Answers.{is_committed}
 use Rattle.mg_model.specs.Changes.{row_at}
 use Rattle.mg_model.specs.History.{Entries, Entry}
-use Rattle.mg_model.specs.Legal.{after_durable, durable_count, is_durable, is_fine, is_lasting, is_limbo, with_asked}
+use Rattle.mg_model.specs.Legal.{IsLegal, after_durable, durable_count, is_durable, is_fine, is_lasting, is_limbo, with_asked}
 use Rattle.mg_model.specs.Machine.{database, own, state_of}
 use Rattle.mg_image.specs.Form.{Form}
 use Rattle.mg_image.specs.Histories.{HoldsDurable, newest_at}
@@ -63,6 +63,16 @@ entry_cut e h k most = at (is_durable e) (nat_lt (durable_count h) k) (le-ltb _ 
     at true false is = refl
     at false later is = refl
 
+-- a legal history is legal up to each of its durable events
+pub after_legal : (o : Opening) (h : Entries) (k : ℕ) → IsLegal o h → IsLegal o (after_durable h k)
+after_legal o [] k legal = tt
+after_legal o (e ∷ h) k legal =
+    at (is_durable e && nat_lt (durable_count h) k) (after_legal o h k legal.1)
+  where
+    at : (b : Bool) → IsLegal o (after_durable h k) → IsLegal o (if b then e ∷ h else after_durable h k)
+    at true rest = legal
+    at false rest = rest
+
 -- an entry more takes nothing away
 pub from_longer : (form : Form) (size : ℕ) (o : Opening) (h : Entries) (e : Entry) (least : ℕ)
     (image : Image) → HoldsFrom form size o h least image → HoldsFrom form size o (e ∷ h) least image
@@ -72,6 +82,7 @@ from_longer form size o h e least image holds = record {
   at_most = let most = holds.at_most in let more = entry_counts e h in omega (arith, most, more);
   holds = holds_cut form size (page_at size image) o h (e ∷ h) holds.k holds.k
       (entry_cut e h holds.k holds.at_most) holds.holds;
+  legal = subst (IsLegal o) (sym (entry_cut e h holds.k holds.at_most)) holds.legal;
 }
 
 from_as : (form : Form) (size : ℕ) (o : Opening) (h g : Entries) (least fewer : ℕ) (image : Image)
@@ -83,18 +94,19 @@ from_as form size o h g least fewer image same equal holds =
 -- ---- images
 
 last_of : (form : Form) (size : ℕ) (o : Opening) (h : Entries) (pages : Pages) (image : Image)
-    → page_at size image ≡ pages → HoldsAll form size pages o h
+    → page_at size image ≡ pages → IsLegal o h → HoldsAll form size pages o h
     → HoldsFrom form size o h (durable_count h) image
-last_of form size o h pages image same all = record {
+last_of form size o h pages image same legal all = record {
   k = durable_count h;
   at_least = omega arith;
   at_most = omega arith;
   holds = subst (λ (ps : Pages). HoldsDurable form size ps o h (durable_count h)) (sym same) all.durable;
+  legal = after_legal o h (durable_count h) legal;
 }
 
 pub overlays_hold_from : (form : Form) → OverlaysHold form
 overlays_hold_from form size o h cache has_asked needs set_ image opening legal lasts closed is =
-    last_of form size o h (overlay cache set_) image (fun_ext is)
+    last_of form size o h (overlay cache set_) image (fun_ext is) legal
     (overlays_hold form size o h cache needs opening legal lasts.bits lasts.every set_ closed)
 
 pub midway_holds_from : (form : Form) → MidwayHolds form
@@ -105,15 +117,16 @@ midway_holds_from form size o h e page before cache has_asked needs set_ image o
     at : HoldsAll form size (overlay cache set_) o h ⊎ HoldsAll form size (overlay cache set_) o (e ∷ h)
         → HoldsFrom form size o (e ∷ h) (durable_count h) image
     at (inl without) = from_longer form size o h e (durable_count h) image
-        (last_of form size o h (overlay cache set_) image (fun_ext is) without)
+        (last_of form size o h (overlay cache set_) image (fun_ext is) legal.1 without)
     at (inr within) =
         let last : HoldsFrom form size o (e ∷ h) (durable_count (e ∷ h)) image =
-        last_of form size o (e ∷ h) (overlay cache set_) image (fun_ext is) within in
+        last_of form size o (e ∷ h) (overlay cache set_) image (fun_ext is) legal within in
         record {
           k = last.k;
           at_least = let least = last.at_least in let more = entry_counts e h in omega (arith, least, more);
           at_most = last.at_most;
           holds = last.holds;
+          legal = last.legal;
         }
 
 -- ---- calls

@@ -8,7 +8,7 @@ use Rattle.mg_model.specs.declared.answer.Answer.TheVariants.{Fine, Tx, Rows, No
 use Rattle.mg_model.specs.declared.opening.Opening.{Opening}
 use Rattle.mg_model.specs.declared.refusal.Refusal.TheVariants.{DiskWrite}
 use Rattle.mg_model.specs.History.{Entries, Entry}
-use Rattle.mg_model.specs.Legal.{durable_count, is_lasting, with_asked}
+use Rattle.mg_model.specs.Legal.{IsLegal, after_durable, durable_count, is_lasting, with_asked}
 use Rattle.mg_image.specs.Form.{Form}
 use Rattle.mg_image.specs.Histories.{HoldsDurable}
 
@@ -40,13 +40,14 @@ abbrev pub HoldsAt : Form → ℕ → Opening → Entries → ℕ → Image → 
 HoldsAt form size o h k image = HoldsDurable form size (page_at size image) o h k
 
 -- An image is blank or sound, and holds what outlasts a crash after some durable event of a history, and
--- after so many at least.
+-- after so many at least; the history up to that event is legal, also where the event is one that is under way.
 pub record HoldsFrom (form : Form) (size : ℕ) (o : Opening) (h : Entries) (least : ℕ)
     (image : Image) : Type 0 where
   pub k : ℕ
   pub at_least : least ≤ k
   pub at_most : k ≤ durable_count h
   pub holds : HoldsAt form size o h k image
+  pub legal : IsLegal o (after_durable h k)
 
 -- it does after all durable events that were acknowledged, and perhaps the one under way
 abbrev pub HoldsAcknowledged : Form → ℕ → Opening → Entries → Image → Type 0

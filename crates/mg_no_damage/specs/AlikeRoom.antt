@@ -84,6 +84,7 @@ module _ {R P : Type 0} (m : Means R P) where
       tells = kept.tells;
       most_writes = kept.most_writes;
       time = λ told. elapses_with (kept.time told);
+      page_limit = kept.page_limit;
       sizes = kept.sizes;
       holds = kept.holds;
       given = kept.given;

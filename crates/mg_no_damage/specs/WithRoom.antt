@@ -1,5 +1,5 @@
 -- A keeper whose calls take few pages stands for its histories with the room that their openings promise.
-use Rattle.std.proofs.Common.{◌≡◌, ◌∙◌, inl, inr, ◌⊎◌, ◌<◌, ◌≤◌, ◌+◌, ◌*◌, ◌&&◌, ℕ, Bool, true, false, List, [], ◌∷◌, Option, Some, None, Result, Ok, Err, arith, cond, refl}
+use Rattle.std.proofs.Common.{◌≡◌, ◌∙◌, inl, inr, ◌⊎◌, ◌<◌, ◌≤◌, ◌+◌, ◌*◌, ◌&&◌, ℕ, Bool, true, false, List, [], ◌∷◌, Option, Some, None, Result, Ok, Err, arith, cond, refl, subst, sym}
 use Rattle.std.specs.Prelude.{length, if◌then◌else◌}
 use Rattle.std.proofs.Math.Nat.{min-eq_left}
 use Rattle.std.proofs.lemmas.Bool.{cases_lt}
@@ -28,7 +28,7 @@ use Rattle.mg_catalog.specs.RowsSaid.{column_rows, table_row}
 use Rattle.mg_no_damage.specs.AlikeRoom.{commits_with, keeps_with}
 use Rattle.mg_records.specs.Adding.{Adds, fine_or, number_or}
 use Rattle.mg_records.specs.Asking.{TakesNoPage}
-use Rattle.mg_records.specs.Keeping.{Reads, refusal_in}
+use Rattle.mg_records.specs.Keeping.{Causes, Keeps, Reads, refusal_in}
 use Rattle.mg_records.specs.Meaning.{Means}
 use Rattle.mg_records.specs.Needed.{AreFullForCause, IsFullForCause, StandsWithRoom, is_table_row, pages_needed, pages_of, pages_of_catalog, takes_pages, with_room}
 use Rattle.mg_records.specs.Reading.{FindAdds}
@@ -138,29 +138,41 @@ none_back t point list none = at (has_point t point list) none
 
 module _ {R P : Type 0} (m : Means R P) (told : (r : R) (o : Opening) (h : Entries) → m.stands r o h → m.tells r ≡ true)
     (fewer : (r : R) (many few : ℕ) → few ≤ many → m.has_free r many → m.has_free r few) where
+  -- what is refused for want of pages names the page limit
+  names_limit : (old new : R) (refusal : Option Refusal) → Keeps m old new refusal → (limit : ℕ)
+      → refusal ≡ Some (DatabaseFull limit) → limit ≡ m.page_limit old
+  names_limit old new refusal keeps limit is =
+      let cause : Causes m old new (Some (DatabaseFull limit)) = subst (Causes m old new) is keeps.cause in cause.1
+
   -- ---- one entry more
 
   module _ (old new : R) (o : Opening) (h : Entries) (has : StandsWithRoom m old o h) where
+    -- the page limit stays
+    full_on : (refusal : Option Refusal) (entries : Entries) → Keeps m old new refusal
+        → AreFullForCause (m.page_limit old) o entries → AreFullForCause (m.page_limit new) o entries
+    full_on refusal entries keeps full =
+        subst (λ (limit : ℕ). AreFullForCause limit o entries) (sym keeps.page_limit) full
+
     -- a call adds no entry, and takes no page
-    room_stays : (refusal : Option Refusal) (most : ℕ) → TakesAtMost m old new refusal most → most ≤ 0
-        → m.stands new o h → StandsWithRoom m new o h
-    room_stays refusal most takes none stands = record {
+    room_stays : (refusal : Option Refusal) (most : ℕ) → Keeps m old new refusal → TakesAtMost m old new refusal most
+        → most ≤ 0 → m.stands new o h → StandsWithRoom m new o h
+    room_stays refusal most keeps takes none stands = record {
       stands = stands;
       left = λ count within. takes.left count (fewer old count (count + most) (omega (arith, none))
           (has.left count within));
-      full = has.full;
+      full = full_on refusal h keeps has.full;
     }
 
     -- it adds one, and takes no more than that may
-    room_grows : (event : Event) (answer : Answer) (refusal : Option Refusal) (most : ℕ)
+    room_grows : (event : Event) (answer : Answer) (refusal : Option Refusal) (most : ℕ) → Keeps m old new refusal
         → TakesAtMost m old new refusal most → most ≤ pages_of o h event answer
         → ((limit : ℕ) → answer ≡ No (DatabaseFull limit) → refusal ≡ Some (DatabaseFull limit))
         → TakesPages event refusal
         → m.stands new o (entry event answer ∷ h) → StandsWithRoom m new o (entry event answer ∷ h)
-    room_grows event answer refusal most takes least full kind stands = record {
+    room_grows event answer refusal most keeps takes least full kind stands = record {
       stands = stands;
       left = left;
-      full = (for_cause kind, has.full);
+      full = full_on refusal (entry event answer ∷ h) keeps (for_cause kind, has.full);
     }
       where
         left : (count : ℕ) → pages_of o h event answer + pages_needed o h + count ≤ o.free → m.has_free new count
@@ -174,23 +186,27 @@ module _ {R P : Type 0} (m : Means R P) (told : (r : R) (o : Opening) (h : Entri
         needs_more limit is (inr within) = absurd (takes.enough (fewer old (pages_of o h event answer) most least
             (has.left (pages_of o h event answer) (omega (arith, within)))) limit (full limit is))
 
-        for_cause : TakesPages event refusal → IsFullForCause o h event answer
-        for_cause (inl may) limit is =
-            (may, needs_more limit is (cases_lt o.free (pages_of o h event answer + pages_needed o h)))
+        for_cause : TakesPages event refusal → IsFullForCause (m.page_limit old) o h event answer
+        for_cause (inl may) limit is = (
+          names_limit old new refusal keeps limit (full limit is),
+          may,
+          needs_more limit is (cases_lt o.free (pages_of o h event answer + pages_needed o h)),
+        )
         for_cause (inr none) limit is = absurd (none limit (full limit is))
 
     -- a transaction that was to be taken back, and was refused, may have been rolled back
     room_given_up : (b : Bool) (t : TxNo) (event : Event) (refusal : Refusal) (most : ℕ) → takes_pages event ≡ true
-        → TakesAtMost m old new (Some refusal) most → most ≤ pages_of o h event (No refusal)
+        → Keeps m old new (Some refusal) → TakesAtMost m old new (Some refusal) most → most ≤ pages_of o h event (No refusal)
         → m.stands new o (cond b (entry (Rollback t) Fine ∷ entry event (No refusal) ∷ h) (entry event (No refusal) ∷ h))
         → StandsWithRoom m new o
         (cond b (entry (Rollback t) Fine ∷ entry event (No refusal) ∷ h) (entry event (No refusal) ∷ h))
-    room_given_up false t event refusal most may takes least stands =
-        room_grows event (No refusal) (Some refusal) most takes least (refused_full refusal) (inl may) stands
-    room_given_up true t event refusal most may takes least stands = record {
+    room_given_up false t event refusal most may keeps takes least stands =
+        room_grows event (No refusal) (Some refusal) most keeps takes least (refused_full refusal) (inl may) stands
+    room_given_up true t event refusal most may keeps takes least stands = record {
       stands = stands;
       left = left;
-      full = (λ limit is. absurd cc, (for_cause, has.full));
+      full = full_on (Some refusal) (entry (Rollback t) Fine ∷ entry event (No refusal) ∷ h) keeps
+          (λ limit is. absurd cc, (for_cause, has.full));
     }
       where
         left : (count : ℕ) → 0 + (pages_of o h event (No refusal) + pages_needed o h) + count ≤ o.free
@@ -206,9 +222,12 @@ module _ {R P : Type 0} (m : Means R P) (told : (r : R) (o : Opening) (h : Entri
         needs_more limit is (inr within) = absurd (takes.enough (fewer old (pages_of o h event (No refusal)) most least
             (has.left (pages_of o h event (No refusal)) (omega (arith, within)))) limit (refused_full refusal limit is))
 
-        for_cause : IsFullForCause o h event (No refusal)
-        for_cause limit is =
-            (may, needs_more limit is (cases_lt o.free (pages_of o h event (No refusal) + pages_needed o h)))
+        for_cause : IsFullForCause (m.page_limit old) o h event (No refusal)
+        for_cause limit is = (
+          names_limit old new (Some refusal) keeps limit (refused_full refusal limit is),
+          may,
+          needs_more limit is (cases_lt o.free (pages_of o h event (No refusal) + pages_needed o h)),
+        )
 
   -- ---- calls
 
@@ -217,12 +236,12 @@ module _ {R P : Type 0} (m : Means R P) (told : (r : R) (o : Opening) (h : Entri
     pub adds_with : (event : Event) (answer : Answer) (refusal : Option Refusal) (most : ℕ)
         → ((o : Opening) (h : Entries) → most ≤ pages_of o h event answer)
         → ((limit : ℕ) → answer ≡ No (DatabaseFull limit) → refusal ≡ Some (DatabaseFull limit))
-        → TakesPages event refusal → TakesFew m old new refusal most → Adds m old new event answer
+        → TakesPages event refusal → Keeps m old new refusal → TakesFew m old new refusal most → Adds m old new event answer
         → Adds (with_room m) old new event answer
-    adds_with event answer refusal most least full kind takes adds o h has =
+    adds_with event answer refusal most least full kind keeps takes adds o h has =
         let it = adds o h has.stands in (
           it.0,
-          room_grows old new o h has event answer refusal most (takes o h has.stands (told old o h has.stands)) (least o h) full kind
+          room_grows old new o h has event answer refusal most keeps (takes o h has.stands (told old o h has.stands)) (least o h) full kind
               it.1,
         )
 
@@ -230,7 +249,7 @@ module _ {R P : Type 0} (m : Means R P) (told : (r : R) (o : Opening) (h : Entri
     pub reads_with : (refusal : Option Refusal) (walks : Option ℕ) → TakesFew m old new refusal 0
         → Reads m old new refusal walks → Reads (with_room m) old new refusal walks
     reads_with refusal walks takes reads = record {
-      stays = λ o h has. room_stays old new o h has refusal 0 (takes o h has.stands (told old o h has.stands))
+      stays = λ o h has. room_stays old new o h has refusal 0 reads.keeps (takes o h has.stands (told old o h has.stands))
           (omega arith) (reads.stays o h has.stands);
       keeps = keeps_with m old new refusal reads.keeps;
       tables = reads.tables;
@@ -240,90 +259,93 @@ module _ {R P : Type 0} (m : Means R P) (told : (r : R) (o : Opening) (h : Entri
 
     -- a statement tells what it found
     pub finds_with : (t : TxNo) (name : List ℕ) (filter : Option Expr) (rows : List Cells)
-        (result : Result (Unit {0}) Refusal) → TakesNoPage (refusal_in result) → TakesFew m old new (refusal_in result) 0
-        → FindAdds m old new t name filter rows result → FindAdds (with_room m) old new t name filter rows result
-    finds_with t name filter rows (Ok x) none takes adds = λ o h has is.
+        (result : Result (Unit {0}) Refusal) → TakesNoPage (refusal_in result) → Keeps m old new (refusal_in result)
+        → TakesFew m old new (refusal_in result) 0 → FindAdds m old new t name filter rows result → FindAdds (with_room m) old new t name filter rows result
+    finds_with t name filter rows (Ok x) none keeps takes adds = λ o h has is.
         room_grows old new o h has (Find t name filter) (Rows rows) (refusal_in {T = Unit {0}} (Ok x)) 0
-        (takes o h has.stands (told old o h has.stands)) (omega arith) (λ limit never. absurd cc) (inr none)
+        keeps (takes o h has.stands (told old o h has.stands)) (omega arith) (λ limit never. absurd cc) (inr none)
         (adds o h has.stands is)
-    finds_with t name filter rows (Err refusal) none takes adds = λ o h has.
+    finds_with t name filter rows (Err refusal) none keeps takes adds = λ o h has.
         let it = adds o h has.stands in (
           it.0,
           room_grows old new o h has (Find t name filter) (No refusal) (Some refusal) 0
-              (takes o h has.stands (told old o h has.stands)) (omega arith) (refused_full refusal) (inr none) it.1,
+              keeps (takes o h has.stands (told old o h has.stands)) (omega arith) (refused_full refusal) (inr none) it.1,
         )
 
     -- a transaction was to be taken back, and that was refused
     gives_up_with : (t : TxNo) (event : Event) (refusal : Refusal) → takes_pages event ≡ true
+        → Keeps m old new (Some refusal)
         → ((o : Opening) (h : Entries) → m.stands old o h → TakesAtMost m old new (Some refusal) (pages_of o h event (No refusal)))
         → GivesUp m old new t event refusal → GivesUp (with_room m) old new t event refusal
-    gives_up_with t event refusal may takes gives o h has =
+    gives_up_with t event refusal may keeps takes gives o h has =
         let it = gives o h has.stands in (
           it.0,
           room_given_up old new o h has (is_given_up refusal && is_active (state_of o h t.0)) t event refusal
-              (pages_of o h event (No refusal)) may (takes o h has.stands) (omega arith) it.1,
+              (pages_of o h event (No refusal)) may keeps (takes o h has.stands) (omega arith) it.1,
         )
 
-    pub undoes_with : (t : TxNo) (result : Result (Unit {0}) Refusal)
+    pub undoes_with : (t : TxNo) (result : Result (Unit {0}) Refusal) → Keeps m old new (refusal_in result)
         → TakesFewBack m old new (refusal_in result) t.0 LastMark → Undoes m old new t result
         → Undoes (with_room m) old new t result
-    undoes_with t (Ok x) takes adds = λ o h has.
+    undoes_with t (Ok x) keeps takes adds = λ o h has.
         let it = adds o h has.stands in (
           it.0,
           room_grows old new o h has (UndoMark t) Fine (refusal_in {T = Unit {0}} (Ok x))
-              (pages_of_row * records_back t.0 LastMark (steps o h)) (takes o h has.stands (told old o h has.stands))
+              (pages_of_row * records_back t.0 LastMark (steps o h)) keeps (takes o h has.stands (told old o h has.stands))
               (omega arith) (λ limit never. absurd cc) (inl refl) it.1,
         )
-    undoes_with t (Err refusal) takes gives = gives_up_with t (UndoMark t) refusal refl
+    undoes_with t (Err refusal) keeps takes gives = gives_up_with t (UndoMark t) refusal refl keeps
         (λ o h stands. takes o h stands (told old o h stands)) gives
 
-    pub goes_with : (t : TxNo) (name : List ℕ) (result : Result Bool Refusal)
+    pub goes_with : (t : TxNo) (name : List ℕ) (result : Result Bool Refusal) → Keeps m old new (refusal_in result)
         → TakesFewBack m old new (refusal_in result) t.0 (SavepointNamed name) → GoesBack m old new t name result
         → GoesBack (with_room m) old new t name result
-    goes_with t name (Ok true) takes goes = λ o h has.
+    goes_with t name (Ok true) keeps takes goes = λ o h has.
         let it = goes o h has.stands in (
           it.0,
           it.1,
           room_grows old new o h has (BackTo t name) Fine (refusal_in {T = Bool} (Ok true))
               (pages_of_row * records_back t.0 (SavepointNamed name) (steps o h))
-              (takes o h has.stands (told old o h has.stands)) (omega arith) (λ limit never. absurd cc) (inl refl) it.2,
+              keeps (takes o h has.stands (told old o h has.stands)) (omega arith) (λ limit never. absurd cc) (inl refl) it.2,
         )
-    goes_with t name (Ok false) takes goes = λ o h has.
+    goes_with t name (Ok false) keeps takes goes = λ o h has.
         let it = goes o h has.stands in (
           it.0,
           it.1,
           room_stays old new o h has (refusal_in {T = Bool} (Ok false))
               (pages_of_row * records_back t.0 (SavepointNamed name) (steps o h))
-              (takes o h has.stands (told old o h has.stands))
+              keeps (takes o h has.stands (told old o h has.stands))
               (none_back t.0 (SavepointNamed name) (steps o h) it.1) it.2,
         )
-    goes_with t name (Err refusal) takes gives = gives_up_with t (BackTo t name) refusal refl
+    goes_with t name (Err refusal) keeps takes gives = gives_up_with t (BackTo t name) refusal refl keeps
         (λ o h stands. takes o h stands (told old o h stands)) gives
 
   -- ---- a table is made
 
   module _ (old new : R) (o : Opening) (t : TxNo) (start : Entries) (has : StandsWithRoom m old o start) (most : ℕ)
-      (refusal : Option Refusal) (takes : TakesAtMost m old new refusal most) where
+      (refusal : Option Refusal) (keeps : Keeps m old new refusal) (takes : TakesAtMost m old new refusal most) where
     -- behind entries that need as much as the call may take
-    behind : (h : Entries) → pages_needed o start + most ≤ pages_needed o h → AreFullForCause o h → m.stands new o h
-        → StandsWithRoom m new o h
+    behind : (h : Entries) → pages_needed o start + most ≤ pages_needed o h
+        → AreFullForCause (m.page_limit old) o h → m.stands new o h → StandsWithRoom m new o h
     behind h needs full stands = record {
       stands = stands;
       left = λ count within. takes.left count (has.left (count + most) (omega (arith, within, needs)));
-      full = full;
+      full = full_on old new o start has refusal h keeps full;
     }
 
     -- a row came
-    came : (row : Cells) (h : Entries) → AreFullForCause o h
-        → AreFullForCause o (entry (Insert t catalog_name row) Fine ∷ h)
+    came : (row : Cells) (h : Entries) → AreFullForCause (m.page_limit old) o h
+        → AreFullForCause (m.page_limit old) o (entry (Insert t catalog_name row) Fine ∷ h)
     came row h full = (λ limit is. absurd cc, full)
 
     -- a row was refused
     refused : (row : Cells) (h : Entries) (r : Refusal) → refusal ≡ Some r
         → pages_needed o start + most ≤ pages_of o h (Insert t catalog_name row) (No r) + pages_needed o h
-        → AreFullForCause o h → AreFullForCause o (entry (Insert t catalog_name row) (No r) ∷ h)
+        → AreFullForCause (m.page_limit old) o h
+        → AreFullForCause (m.page_limit old) o (entry (Insert t catalog_name row) (No r) ∷ h)
     refused row h r is needs full = (
       λ limit told. (
+        names_limit old new refusal keeps limit (is ∙ refused_full r limit told),
         refl,
         needs_more limit told
             (cases_lt o.free (pages_of o h (Insert t catalog_name row) (No r) + pages_needed o h)),
@@ -341,23 +363,25 @@ module _ {R P : Type 0} (m : Means R P) (told : (r : R) (o : Opening) (h : Entri
 
   -- its columns
   columns_with : (old new : R) (o : Opening) (t : TxNo) (start : Entries) (has : StandsWithRoom m old o start) (most : ℕ)
-      (refusal : Option Refusal) (takes : TakesAtMost m old new refusal most) (rows : List Cells) (h : Entries)
+      (refusal : Option Refusal) (keeps : Keeps m old new refusal) (takes : TakesAtMost m old new refusal most)
+      (rows : List Cells) (h : Entries)
       → AreOther rows → pages_needed o start + most ≤ pages_needed o h + 5 * length rows
-      → pages_needed o start + most ≤ pages_needed o h + pages_of_table MOST_COLUMNS → AreFullForCause o h
+      → pages_needed o start + most ≤ pages_needed o h + pages_of_table MOST_COLUMNS
+      → AreFullForCause (m.page_limit old) o h
       → InsertsEach m new o t rows h refusal → InsertsEach (with_room m) new o t rows h refusal
-  columns_with old new o t start has most None takes [] h others all some full stands =
-      behind old new o t start has most None takes h (omega (arith, all)) full stands
-  columns_with old new o t start has most (Some r) takes [] h others all some full none = none
-  columns_with old new o t start has most refusal takes (row ∷ rows) h others all some full (inl (lawful, more)) =
+  columns_with old new o t start has most None keeps takes [] h others all some full stands =
+      behind old new o t start has most None keeps takes h (omega (arith, all)) full stands
+  columns_with old new o t start has most (Some r) keeps takes [] h others all some full none = none
+  columns_with old new o t start has most refusal keeps takes (row ∷ rows) h others all some full (inl (lawful, more)) =
       let least : pages_of_row ≤ pages_of o h (Insert t catalog_name row) Fine =
       write_least o h t catalog_name (writes.Insert row) Fine in
       inl (
         lawful,
-        columns_with old new o t start has most refusal takes rows (entry (Insert t catalog_name row) Fine ∷ h) others.1
+        columns_with old new o t start has most refusal keeps takes rows (entry (Insert t catalog_name row) Fine ∷ h) others.1
             (omega (arith, all, least)) (omega (arith, some))
-            (came old new o t start has most refusal takes row h full) more,
+            (came old new o t start has most refusal keeps takes row h full) more,
       )
-  columns_with old new o t start has most refusal takes (row ∷ rows) h others all some full
+  columns_with old new o t start has most refusal keeps takes (row ∷ rows) h others all some full
       (inr (r, is, lawful, stands)) =
       let least : pages_of_table MOST_COLUMNS ≤ pages_of o h (Insert t catalog_name row) (No r) =
       refused_other o h t row r others.0 in
@@ -365,15 +389,16 @@ module _ {R P : Type 0} (m : Means R P) (told : (r : R) (o : Opening) (h : Entri
         r,
         is,
         lawful,
-        behind old new o t start has most refusal takes (entry (Insert t catalog_name row) (No r) ∷ h)
+        behind old new o t start has most refusal keeps takes (entry (Insert t catalog_name row) (No r) ∷ h)
             (omega (arith, some, least))
-            (refused old new o t start has most refusal takes row h r is (omega (arith, some, least)) full) stands,
+            (refused old new o t start has most refusal keeps takes row h r is (omega (arith, some, least)) full) stands,
       )
 
   pub makes_with : (old new : R) (t : TxNo) (name : List ℕ) (shape : Shape) (refusal : Option Refusal)
-      → length shape.columns ≤ MOST_COLUMNS → TakesFew m old new refusal (pages_of_table (length shape.columns))
+      → length shape.columns ≤ MOST_COLUMNS → Keeps m old new refusal
+      → TakesFew m old new refusal (pages_of_table (length shape.columns))
       → MakesTable m old new t name shape refusal → MakesTable (with_room m) old new t name shape refusal
-  makes_with old new t name shape refusal few takes makes o h has = made (makes o h has.stands)
+  makes_with old new t name shape refusal few keeps takes makes o h has = made (makes o h has.stands)
     where
       it : TakesAtMost m old new refusal (pages_of_table (length shape.columns))
       it = takes o h has.stands (told old o h has.stands)
@@ -393,11 +418,11 @@ module _ {R P : Type 0} (m : Means R P) (told : (r : R) (o : Opening) (h : Entri
           (table_row (new_table name shape) ∷ column_rows name shape.key 0 shape.columns) h refusal
       made (inl (lawful, more)) = inl (
         lawful,
-        columns_with old new o t h has (pages_of_table (length shape.columns)) refusal it
+        columns_with old new o t h has (pages_of_table (length shape.columns)) refusal keeps it
             (column_rows name shape.key 0 shape.columns)
             (entry (Insert t catalog_name (table_row (new_table name shape))) Fine ∷ h)
             (columns_other name shape.key 0 shape.columns) (omega (arith, own, many)) (omega (arith, own, few))
-            (came old new o t h has (pages_of_table (length shape.columns)) refusal it (table_row (new_table name shape)) h
+            (came old new o t h has (pages_of_table (length shape.columns)) refusal keeps it (table_row (new_table name shape)) h
             has.full) more,
       )
       made (inr (r, is, lawful, stands)) =
@@ -405,8 +430,8 @@ module _ {R P : Type 0} (m : Means R P) (told : (r : R) (o : Opening) (h : Entri
             r,
             is,
             lawful,
-            behind old new o t h has (pages_of_table (length shape.columns)) refusal it
+            behind old new o t h has (pages_of_table (length shape.columns)) refusal keeps it
                 (entry (Insert t catalog_name (table_row (new_table name shape))) (No r) ∷ h) (omega (arith, least))
-                (refused old new o t h has (pages_of_table (length shape.columns)) refusal it
+                (refused old new o t h has (pages_of_table (length shape.columns)) refusal keeps it
                 (table_row (new_table name shape)) h r is (omega (arith, least)) has.full) stands,
           )

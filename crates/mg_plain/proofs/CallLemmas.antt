@@ -76,6 +76,7 @@ keeps_plain old new refusal inner = record {
   down = none_down refusal inner;
   tells = refl;
   most_writes = refl;
+  page_limit = refl;
   time = λ told. absurd (false≢true told);
   sizes = λ size. refl;
   holds = λ o h least image is. is;

@@ -71,6 +71,7 @@ means = record {
   faults = λ p. 0;
   damage = λ p. 0;
   shortages = λ p. 0;
+  page_limit = λ p. 0;
   has_free = λ p count. Unit {0};
   reserves_ends = false;
   asked = λ p. 0;

@@ -12,7 +12,7 @@ use Rattle.mg_run_ends.specs.declared.ending.RunEnd.{RunEnd}
 use Rattle.mg_run_ends.specs.declared.ending.RunEnd.TheVariants.{Outside, ScriptTooLong, Stream, Whole}
 use Rattle.mg_run_ends.specs.declared.ending.TheConstants.{SCRIPT_MOST}
 use Rattle.mg_run_ends.specs.Ends.{EndsWith}
-use Rattle.mg_runs.specs.Entry.{IsEntry}
+use Rattle.mg_runs.specs.Entry.{IsEntry, limit_on}
 use Rattle.mg_runs.specs.OtherFiles.{HoldsNoDatabase}
 use Rattle.mg_runs.specs.Promise.{IsReadingEnd, LeavesFile, Promise, ScriptCauses, StreamCauses}
 use Rattle.mg_run_ends.specs.Reading.{FailsToRead, IsWholeScript}
@@ -40,7 +40,7 @@ module _ {D S K : Type 0} (m : Meaning D) (s : SourceMeaning S) (n : SinkMeaning
   }
 
   pub served_promise : (size : ℕ) (image : Image) (o : Opening) (script : List ℕ) → IsEntry m old limit size image o
-      → s.left source ≡ Some script → Promise m n size o script old new before after end
+      → s.left source ≡ Some script → Promise m n size (limit_on limit image) o script old new before after end
   served_promise size image o script entry left = inr (
     lines,
     subst (λ (bytes : List ℕ). IsScript bytes lines) (sym (whole.whole script left)) whole.is_script,
@@ -48,7 +48,7 @@ module _ {D S K : Type 0} (m : Meaning D) (s : SourceMeaning S) (n : SinkMeaning
   )
 
   pub served_files : (size : ℕ) (image : Image) → HoldsNoDatabase m old size image
-      → LeavesFile m n size image old new before after end
+      → LeavesFile m n limit size image old new before after end
   served_files size image other = inr (serves.other_files size image other)
 
 -- ---- a script that was not read to its end
@@ -133,9 +133,9 @@ module _ {D S K : Type 0} (m : Meaning D) (s : SourceMeaning S) (n : SinkMeaning
       by (inr (inl is)) a b c = a is
       by (inr (inr is)) a b c = c is
 
-  pub unread_promise : (size : ℕ) (o : Opening) (script : List ℕ)
-      → Promise m n size o script disk disk before after told
-  unread_promise size o script = inl (record { ends = still.ends; disk = refl; last = says.printed })
+  pub unread_promise : (size limit : ℕ) (o : Opening) (script : List ℕ)
+      → Promise m n size limit o script disk disk before after told
+  unread_promise size limit o script = inl (record { ends = still.ends; disk = refl; last = says.printed })
 
-  pub unread_files : (size : ℕ) (image : Image) → LeavesFile m n size image disk disk before after told
-  unread_files size image = inl (record { ends = still.ends; disk = refl; last = says.printed })
+  pub unread_files : (limit size : ℕ) (image : Image) → LeavesFile m n limit size image disk disk before after told
+  unread_files limit size image = inl (record { ends = still.ends; disk = refl; last = says.printed })

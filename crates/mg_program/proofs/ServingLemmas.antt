@@ -25,6 +25,7 @@ use Rattle.mg_scripts.specs.Printing.{SinkSays}
 use Rattle.mg_run_ends.specs.declared.ending.RunEnd.{RunEnd}
 use Rattle.mg_run_ends.specs.declared.ending.RunEnd.TheVariants.{InLine, Outside, ScriptTooLong, Stream, Whole}
 use Rattle.mg_run_ends.specs.Ends.{EndsWith, FailsWith, IsOutside, has_fixed_line, last_line}
+use Rattle.mg_runs.specs.Entry.{limit_on}
 use Rattle.mg_runs.specs.Headline.{EndsBehind, Headline}
 use Rattle.mg_runs.specs.Laws.{BeginsRun, ClosingsFail, IsCutOff, LinesFail, OpeningsAreJudged, OpeningsFail, OtherFilesAreRefused, OtherFilesAreUnopened, RunsBegin, RunsClose, RunsStop, closed_end}
 use Rattle.mg_run_ends.specs.Printing.{IsPrinted}
@@ -221,7 +222,7 @@ module _ {D P K : Type 0} (m : Meaning D) (places : Places P) (n : SinkMeaning K
         most_writes = closing.same.most_writes ∙ (did.accounts.most_writes ∙ did.opened.same.most_writes);
         stream = λ stream. absurd cc;
         sink_steady = λ f whole. ap n.faults same ∙ did.sinks.steady refl;
-        headline = λ size image o entry. subst (Headline m n size o lines disk new before after) (sym is)
+        headline = λ size image o entry. subst (Headline m n size (limit_on limit image) o lines disk new before after) (sym is)
             (closes disk new limit did.core now size image o lines fine (Ok x) before mid after entry did.opened
             core did.accounts (did.done size image o entry) closing
             (subst (λ (e : RunEnd). IsPrinted n mid after (last_line e)) is says.printed));
@@ -235,7 +236,7 @@ module _ {D P K : Type 0} (m : Meaning D) (places : Places P) (n : SinkMeaning K
         most_writes = closing.same.most_writes ∙ (did.accounts.most_writes ∙ did.opened.same.most_writes);
         stream = λ stream. absurd cc;
         sink_steady = λ f whole. absurd cc;
-        headline = λ size image o entry. subst (Headline m n size o lines disk new before after) (sym is)
+        headline = λ size image o entry. subst (Headline m n size (limit_on limit image) o lines disk new before after) (sym is)
             (closes disk new limit did.core now size image o lines fine (Err refusal) before mid after entry did.opened
             core did.accounts (did.done size image o entry) closing
             (subst (λ (e : RunEnd). IsPrinted n mid after (last_line e)) is says.printed));

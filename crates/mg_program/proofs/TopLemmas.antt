@@ -21,7 +21,7 @@ use Rattle.mg_run_ends.specs.declared.ending.RunEnd.{RunEnd}
 use Rattle.mg_run_ends.specs.declared.ending.RunEnd.TheVariants.{InLine, Outside, ScriptTooLong, Stream, Whole}
 use Rattle.mg_run_ends.specs.declared.status.Status.{Status}
 use Rattle.mg_run_ends.specs.Ends.{EndsWith, FailsWith, refused_status, status_of}
-use Rattle.mg_runs.specs.Entry.{IsEntry, TellsWholePages}
+use Rattle.mg_runs.specs.Entry.{IsEntry, TellsWholePages, limit_on}
 use Rattle.mg_runs.specs.Headline.{Headline, IsSettledAt}
 use Rattle.mg_runs.specs.OtherFiles.{HoldsNoDatabase}
 use Rattle.mg_runs.specs.Promise.{LeavesFile, Promise, ScriptCauses, StreamCauses}
@@ -108,15 +108,18 @@ module _ {D : Type 0} (m : Meaning D) (counts_to : ℕ) where
       holds = ended.left.holds;
       sound = ended.left.sound;
       plain = ended.left.plain;
+      next = ended.left.next;
     };
     later = ended.later;
     goes_on = ended.goes_on;
-    entry = λ limit. record {
-      sized = (ended.entry limit).sized;
-      lawful = (ended.entry limit).lawful;
+    next = ended.next;
+    free = ended.free;
+    entry = λ limit free has. record {
+      sized = (ended.entry limit free has).sized;
+      lawful = (ended.entry limit free has).lawful;
       whole = whole;
-      settled = settled_on new ended.left.image (ended.entry limit).settled;
-      opening = (ended.entry limit).opening;
+      settled = settled_on new ended.left.image (ended.entry limit free has).settled;
+      opening = (ended.entry limit free has).opening;
     };
   }
   settled_at new size o h (InLine refusal) whole ended = tt
@@ -161,10 +164,10 @@ module _ {D : Type 0} (m : Meaning D) (counts_to : ℕ) where
       ends_or_stops ScriptTooLong ends = not_risen ends
 
   module _ {K : Type 0} (n : SinkMeaning K) where
-    headline_of : (size : ℕ) (o : Opening) (lines : List Line) (old new : Stopped D) (before after : K) (end : RunEnd)
-        → TellsWholePages m size → Headline (stopped_meaning m counts_to) n size o lines old new before after end
-        → Headline m n size o lines (inner_of old) (inner_of new) before after end
-    headline_of size o lines old new before after end whole line = record {
+    headline_of : (size limit : ℕ) (o : Opening) (lines : List Line) (old new : Stopped D) (before after : K) (end : RunEnd)
+        → TellsWholePages m size → Headline (stopped_meaning m counts_to) n size limit o lines old new before after end
+        → Headline m n size limit o lines (inner_of old) (inner_of new) before after end
+    headline_of size limit o lines old new before after end whole line = record {
       entries = line.entries;
       served = line.served;
       unjudged = line.unjudged;
@@ -172,21 +175,22 @@ module _ {D : Type 0} (m : Meaning D) (counts_to : ℕ) where
       room = line.room;
       crash = leaves old new (HoldsFrom packed_form size o (asked line.entries) 0) line.crash;
       exit = line.exit;
+      goes_on = line.goes_on;
       settled = settled_at new size o line.entries end whole line.settled;
       tells = line.tells;
       sized = line.sized;
     }
 
-    promise_of : (size : ℕ) (o : Opening) (script : List ℕ) (old new : Stopped D) (before after : K) (end : RunEnd)
-        → TellsWholePages m size → Promise (stopped_meaning m counts_to) n size o script old new before after end
-        → Promise m n size o script (inner_of old) (inner_of new) before after end
-    promise_of size o script old new before after end whole (inl unread) = inl (record {
+    promise_of : (size limit : ℕ) (o : Opening) (script : List ℕ) (old new : Stopped D) (before after : K) (end : RunEnd)
+        → TellsWholePages m size → Promise (stopped_meaning m counts_to) n size limit o script old new before after end
+        → Promise m n size limit o script (inner_of old) (inner_of new) before after end
+    promise_of size limit o script old new before after end whole (inl unread) = inl (record {
       ends = unread.ends;
       disk = ap inner_of unread.disk;
       last = unread.last;
     })
-    promise_of size o script old new before after end whole (inr (lines, is, line)) =
-        inr (lines, is, headline_of size o lines old new before after end whole line)
+    promise_of size limit o script old new before after end whole (inr (lines, is, line)) =
+        inr (lines, is, headline_of size limit o lines old new before after end whole line)
 
     other_file : (old : Stopped D) (size : ℕ) (image : Image) → HoldsNoDatabase m (inner_of old) size image
         → HoldsNoDatabase (stopped_meaning m counts_to) old size image
@@ -197,15 +201,15 @@ module _ {D : Type 0} (m : Meaning D) (counts_to : ℕ) where
       unmakeable = other.unmakeable;
     }
 
-    file_of : (size : ℕ) (image : Image) (old new : Stopped D) (before after : K) (end : RunEnd)
-        → LeavesFile (stopped_meaning m counts_to) n size image old new before after end
-        → LeavesFile m n size image (inner_of old) (inner_of new) before after end
-    file_of size image old new before after end (inl unread) = inl (record {
+    file_of : (limit size : ℕ) (image : Image) (old new : Stopped D) (before after : K) (end : RunEnd)
+        → LeavesFile (stopped_meaning m counts_to) n limit size image old new before after end
+        → LeavesFile m n limit size image (inner_of old) (inner_of new) before after end
+    file_of limit size image old new before after end (inl unread) = inl (record {
       ends = unread.ends;
       disk = ap inner_of unread.disk;
       last = unread.last;
     })
-    file_of size image old new before after end (inr refused) = inr (record {
+    file_of limit size image old new before after end (inr refused) = inr (record {
       unwritten = record {
         held = refused.unwritten.held;
         crash = leaves old new (MayLeave m (inner_of old)) refused.unwritten.crash;
@@ -226,9 +230,9 @@ module _ {D : Type 0} (m : Meaning D) (counts_to : ℕ) where
           → StreamCauses s n source source' sink sink' end → ScriptCauses s source old new end
           → ((size : ℕ) (image : Image) (o : Opening) (script : List ℕ)
           → IsEntry (stopped_meaning m counts_to) old limit size image o → s.left source ≡ Some script
-          → Promise (stopped_meaning m counts_to) n size o script old new sink sink' end)
+          → Promise (stopped_meaning m counts_to) n size (limit_on limit image) o script old new sink sink' end)
           → ((size : ℕ) (image : Image) → HoldsNoDatabase (stopped_meaning m counts_to) old size image
-          → LeavesFile (stopped_meaning m counts_to) n size image old new sink sink' end)
+          → LeavesFile (stopped_meaning m counts_to) n limit size image old new sink sink' end)
           → Runs m counts_to s n limit (Some most) source source' first result sink sink' end
       runs_of_stopped limit most source source' first result old new sink sink' end newly is law same ends streams script
           headline files = subst (λ (d : D). Runs m counts_to s n limit (Some most) source source' first d sink sink' end)
@@ -252,8 +256,8 @@ module _ {D : Type 0} (m : Meaning D) (counts_to : ℕ) where
               not_asked = λ asked_none. ap inner_of (script.not_asked asked_none);
               short = script.short;
             };
-            headline = λ size image o bytes entry left. promise_of size o bytes old new sink sink' end entry.whole
+            headline = λ size image o bytes entry left. promise_of size (limit_on limit image) o bytes old new sink sink' end entry.whole
                 (headline size image o bytes (entered old limit size image o entry) left);
-            other_files = λ size image other. file_of size image old new sink sink' end
+            other_files = λ size image other. file_of limit size image old new sink sink' end
                 (files size image (other_file old size image other));
           }

@@ -6,7 +6,9 @@ use Rattle.mg_base.specs.Streams.{SinkMeaning, SourceMeaning}
 use Rattle.mg_model.specs.History.{Entries}
 use Rattle.mg_model.specs.Legal.{IsLegal}
 use Rattle.mg_model.specs.declared.opening.Opening.{Opening}
+use Rattle.mg_model.specs.declared.refusal.Refusal.TheVariants.{Memory}
 use Rattle.mg_run_ends.specs.declared.ending.RunEnd.{RunEnd}
+use Rattle.mg_run_ends.specs.declared.ending.RunEnd.TheVariants.{InLine, Outside}
 use Rattle.mg_run_ends.specs.declared.ending.TheConstants.{SCRIPT_MOST}
 use Rattle.mg_run_ends.specs.Ends.{status, status_of}
 use Rattle.mg_runs.specs.Entry.{IsEntry}
@@ -26,11 +28,15 @@ pub record ObeysAll {K : Type 0} (n : SinkMeaning K) (before after : K) (size : 
   pub served : AreServed n before after size o lines end entries
   pub whole : served.lines_end ≡ Whole
 
--- All lines were obeyed, and the status is 0 or 1; or it is 6, for want of memory.
+-- memory was short, in a line or outside the lines, and by that the run has ended, with status 6
+abbrev pub IsShort : RunEnd → Type 0
+IsShort end = (end ≡ InLine Memory) ⊎ (end ≡ Outside Memory)
+
+-- All lines were obeyed, and the status is 0 or 1; or memory was short.
 abbrev pub IsComplete : {K : Type 0} → SinkMeaning K → K → K → ℕ → Opening → List ℕ → RunEnd → Type 0
 IsComplete n before after size o script end =
     (ObeysAll n before after size o script end × ((status_of end ≡ status 0) ⊎ (status_of end ≡ status 1)))
-    ⊎ (status_of end ≡ status 6)
+    ⊎ IsShort end
 
 -- So ends a run without `--stop` on a disk on which a history can begin, where the script has at most 1,048,576 bytes, and
 -- no count of faults rose, of the disk, of the source or of the sink. (Where its entries need no more pages than its

@@ -19,7 +19,7 @@ use Rattle.mg_sessions.specs.Accounts.{Accounts}
 use Rattle.mg_run_ends.specs.declared.ending.RunEnd.{RunEnd}
 use Rattle.mg_run_ends.specs.declared.ending.RunEnd.TheVariants.{InLine, Outside, ScriptTooLong, Stream, Whole}
 use Rattle.mg_run_ends.specs.Ends.{EndsWith}
-use Rattle.mg_runs.specs.Entry.{IsEntry}
+use Rattle.mg_runs.specs.Entry.{IsEntry, limit_on}
 use Rattle.mg_runs.specs.Headline.{Headline}
 use Rattle.mg_runs.specs.OtherFiles.{HoldsNoDatabase, RefusesFile}
 
@@ -34,9 +34,9 @@ pub record Serves {D K : Type 0} (m : Meaning D) (n : SinkMeaning K) (limit : �
   pub stream : end ≡ Stream → Rose (n.faults before) (n.faults after)
   pub sink_steady : (fine : Bool) → end ≡ Whole fine → n.faults after ≡ n.faults before
   pub headline : (size : ℕ) (image : Image) (o : Opening) → IsEntry m old limit size image o
-      → Headline m n size o lines old new before after end
+      → Headline m n size (limit_on limit image) o lines old new before after end
   pub other_files : (size : ℕ) (image : Image) → HoldsNoDatabase m old size image
-      → RefusesFile m n size image old new before after end
+      → RefusesFile m n limit size image old new before after end
 
 -- ---- lines on an engine
 

@@ -14,7 +14,7 @@ use Rattle.mg_run_ends.specs.declared.ending.RunEnd.{RunEnd}
 use Rattle.mg_run_ends.specs.declared.ending.RunEnd.TheVariants.{InLine, Outside}
 use Rattle.mg_run_ends.specs.declared.status.Status.{Status}
 use Rattle.mg_run_ends.specs.Ends.{EndsWith, status_of}
-use Rattle.mg_runs.specs.Entry.{IsEntry}
+use Rattle.mg_runs.specs.Entry.{IsEntry, limit_on}
 use Rattle.mg_run_ends.specs.Printing.{IsPrinted}
 use Rattle.mg_runs.specs.OtherFiles.{HoldsNoDatabase}
 use Rattle.mg_runs.specs.Promise.{LeavesFile, Promise, ScriptCauses, StreamCauses}
@@ -67,10 +67,10 @@ pub record Runs {D S K : Type 0} (m : Meaning D) (counts_to : ℕ) (s : SourceMe
   pub streams : StreamCauses s n source source' sink sink' end
   pub script : ScriptCauses s source old new end
   pub headline : (size : ℕ) (image : Image) (o : Opening) (script : List ℕ) → IsEntry m old limit size image o
-      → s.left source ≡ Some script → Promise m n size o script old new sink sink' end
+      → s.left source ≡ Some script → Promise m n size (limit_on limit image) o script old new sink sink' end
   -- a file that holds no database is not written
   pub other_files : (size : ℕ) (image : Image) → HoldsNoDatabase m old size image
-      → LeavesFile m n size image old new sink sink' end
+      → LeavesFile m n limit size image old new sink sink' end
 
 -- The words are a command line; its run has ended, and the status tells how.
 pub record HasRun {D S K : Type 0} (m : Meaning D) (counts_to : ℕ) (s : SourceMeaning S) (n : SinkMeaning K)

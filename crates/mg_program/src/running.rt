@@ -4,7 +4,7 @@ ghost use Rattle.std.specs.Prelude.{◌≡◌, ℕ, List, Some};
 ghost use Rattle.mg_base.specs.Image.{Image};
 ghost use Rattle.mg_model.specs.declared.opening.Opening.{Opening};
 ghost use Rattle.mg_run_ends.specs.Ends.{EndsWith};
-ghost use Rattle.mg_runs.specs.Entry.{IsEntry};
+ghost use Rattle.mg_runs.specs.Entry.{IsEntry, limit_on};
 ghost use Rattle.mg_runs.specs.OtherFiles.{HoldsNoDatabase};
 ghost use Rattle.mg_runs.specs.Promise.{LeavesFile, Promise, ScriptCauses, StreamCauses};
 
@@ -22,7 +22,8 @@ use std::alloc::Global;
 /// written and the disk settled; where something does, nothing is written any more.
 ///
 /// `limit` is the greatest number of pages that the database may have. Where as many pages are free by it at the start
-/// as the lines may take, none of them is answered DATABASE FULL (`room` of `Headline`).
+/// as the lines may take, none of them is answered DATABASE FULL; where one is, it names `limit`, or the number of pages
+/// that the disk had, if that is greater (`room` of `Headline`).
 pub fn run<D: Disk, S: Source, K: Sink>(
     alloc: Global,
     disk: D,
@@ -36,9 +37,9 @@ pub fn run<D: Disk, S: Source, K: Sink>(
     ensures script { ScriptCauses S.meaning source.old disk result.1 result.0 }
     ensures headline { (size : ℕ) (image : Image) (o : Opening) (script : List ℕ)
         → IsEntry D.meaning disk limit size image o → S.meaning.left source.old ≡ Some script
-        → Promise D.meaning K.meaning size o script disk result.1 sink.old sink.new result.0 }
+        → Promise D.meaning K.meaning size (limit_on limit image) o script disk result.1 sink.old sink.new result.0 }
     ensures other_files { (size : ℕ) (image : Image) → HoldsNoDatabase D.meaning disk size image
-        → LeavesFile D.meaning K.meaning size image disk result.1 sink.old sink.new result.0 }
+        → LeavesFile D.meaning K.meaning limit size image disk result.1 sink.old sink.new result.0 }
 {
     lines_of_scripts_can_be_obeyed();
     match read_lines(alloc, source) {

@@ -17,12 +17,12 @@ abbrev pub refusal_in : {T : Type 0} → Result T Refusal → Option Refusal
 refusal_in (Ok x) = None
 refusal_in (Err r) = Some r
 
--- a refusal has no other cause than this
+-- a refusal has no other cause than this; want of pages names the page limit
 abbrev pub Causes : {R P : Type 0} → Means R P → R → R → Option Refusal → Type 0
 Causes m old new (Some (DiskRead count)) = Rose (m.faults old) (m.faults new)
 Causes m old new (Some (DiskWrite count)) = Rose (m.faults old) (m.faults new)
 Causes m old new (Some (Damaged page field found wanted)) = Rose (m.damage old) (m.damage new)
-Causes m old new (Some (DatabaseFull limit)) = Rose (m.shortages old) (m.shortages new)
+Causes m old new (Some (DatabaseFull limit)) = Rose (m.shortages old) (m.shortages new) × (limit ≡ m.page_limit old)
 Causes m old new (Some (Offline count)) = m.down old ≡ Some count
 Causes m old new refusal = Unit {0}
 
@@ -54,6 +54,7 @@ pub record Keeps {R P : Type 0} (m : Means R P) (old new : R) (refusal : Option 
   pub down : m.down new ≡ down_after (m.down old) refusal
   pub tells : m.tells new ≡ m.tells old
   pub most_writes : m.most_writes new ≡ m.most_writes old
+  pub page_limit : m.page_limit new ≡ m.page_limit old
   pub time : m.tells old ≡ true → Elapses m old new
   pub sizes : (size : ℕ) → m.is_size new size ≡ m.is_size old size
   pub holds : (o : Opening) (h : Entries) (least : ℕ) (c : Image) → m.holds old o h least c

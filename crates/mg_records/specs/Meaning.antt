@@ -40,6 +40,8 @@ pub record Means (R P : Type 0) : Type 1 where
   pub faults : R → ℕ
   pub damage : R → ℕ
   pub shortages : R → ℕ
+  -- how many pages it may have at most
+  pub page_limit : R → ℕ
   -- so many pages are free at least
   pub has_free : R → ℕ → Type 0
   -- whether the room that the end of a transaction needs is taken when it begins

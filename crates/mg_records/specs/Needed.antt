@@ -67,15 +67,15 @@ takes_pages (events.BackTo t name) = true
 takes_pages event = false
 
 -- An entry behind a history is answered DATABASE FULL only where its event may take pages, and it needs more, with the
--- entries before it, than the opening promises to be free.
-abbrev pub IsFullForCause : Opening → Entries → Event → Answer → Type 0
-IsFullForCause o h event answer = (limit : ℕ) → answer ≡ No (DatabaseFull limit)
-    → (takes_pages event ≡ true) × (o.free < pages_of o h event answer + pages_needed o h)
+-- entries before it, than the opening promises to be free; and it names the page limit.
+abbrev pub IsFullForCause : ℕ → Opening → Entries → Event → Answer → Type 0
+IsFullForCause limit o h event answer = (named : ℕ) → answer ≡ No (DatabaseFull named)
+    → (named ≡ limit) × (takes_pages event ≡ true) × (o.free < pages_of o h event answer + pages_needed o h)
 
 -- each entry of a history is, if one is
-abbrev pub AreFullForCause : Opening → Entries → Type 0
-AreFullForCause o [] = Unit {0}
-AreFullForCause o (e ∷ h) = IsFullForCause o h e.event e.answer × AreFullForCause o h
+abbrev pub AreFullForCause : ℕ → Opening → Entries → Type 0
+AreFullForCause limit o [] = Unit {0}
+AreFullForCause limit o (e ∷ h) = IsFullForCause limit o h e.event e.answer × AreFullForCause limit o h
 
 -- ---- keepers that were promised pages
 
@@ -84,7 +84,7 @@ AreFullForCause o (e ∷ h) = IsFullForCause o h e.event e.answer × AreFullForC
 pub record StandsWithRoom {R P : Type 0} (m : Means R P) (r : R) (o : Opening) (h : Entries) : Type 0 where
   pub stands : m.stands r o h
   pub left : (count : ℕ) → pages_needed o h + count ≤ o.free → m.has_free r count
-  pub full : AreFullForCause o h
+  pub full : AreFullForCause (m.page_limit r) o h
 
 -- what a keeper means that stands so for each of its histories
 abbrev pub with_room : {R P : Type 0} → Means R P → Means R P
@@ -107,6 +107,7 @@ with_room m = record {
   faults = m.faults;
   damage = m.damage;
   shortages = m.shortages;
+  page_limit = m.page_limit;
   has_free = m.has_free;
   reserves_ends = m.reserves_ends;
   asked = m.asked;

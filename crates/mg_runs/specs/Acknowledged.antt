@@ -22,7 +22,7 @@ HoldsEach size o entries (turn ∷ more) c =
 
 -- each image that a crash may leave at the end of a run holds each of its lines
 abbrev pub LinesAreHeld : {D K : Type 0} → Meaning D → SinkMeaning K → Type 0
-LinesAreHeld {D} {K} m n = (size : ℕ) (o : Opening) (lines : List Line) (old new : D) (before after : K) (end : RunEnd)
-    (line : Headline m n size o lines old new before after end)
+LinesAreHeld {D} {K} m n = (size limit : ℕ) (o : Opening) (lines : List Line) (old new : D) (before after : K) (end : RunEnd)
+    (line : Headline m n size limit o lines old new before after end)
     (served : AreServed n before after size o lines end line.entries) (c : Image) → MayLeave m new c
     → HoldsEach size o line.entries served.turns c

@@ -21,10 +21,11 @@ holds_each size o entries c holds (turn ∷ more) are = (
     at_least = let all = holds.at_least in let its = are.0 in omega (arith, all, its);
     at_most = holds.at_most;
     holds = holds.holds;
+    legal = holds.legal;
   },
   holds_each size o entries c holds more are.1,
 )
 
 pub lines_held : {D K : Type 0} (m : Meaning D) (n : SinkMeaning K) → LinesAreHeld m n
-lines_held m n size o lines old new before after end line served c may =
+lines_held m n size limit o lines old new before after end line served c may =
     holds_each size o line.entries c (line.exit c may) served.turns served.durable

@@ -1,13 +1,14 @@
 -- What the lines of a run and its end give of its promise.
-use Rattle.std.proofs.Common.{◌≡◌, inl, inr, ◌==◌, ℕ, Bool, true, List, [], ◌∷◌, Some, Result, Ok, Err, refl, sym, ap, ◌∙◌, subst, arith}
+use Rattle.std.proofs.Common.{◌≡◌, inl, inr, ◌==◌, ◌≤◌, ◌+◌, ℕ, Bool, true, List, [], ◌∷◌, Some, Result, Ok, Err, refl, sym, ap, ◌∙◌, subst, arith}
 use Rattle.std.proofs.lemmas.Bool.{eq-eqb, eqb-true}
 use Rattle.mg_base.specs.Disk.{MayLeave, Meaning}
-use Rattle.mg_base.specs.Image.{Image}
+use Rattle.mg_base.specs.Image.{Image, page_at}
+use Rattle.mg_base.specs.declared.geometry.TheConstants.{GREATEST_LIMIT}
 use Rattle.mg_base.specs.Moments.{LeavesOnly, joined, leaves_as}
 use Rattle.mg_base.specs.Streams.{SinkMeaning}
 use Rattle.mg_core.specs.Cores.{IsCore}
 use Rattle.mg_core.specs.declared.parts.Core.{Core}
-use Rattle.mg_engine_meaning.specs.Closings.{ClosesEngine, HasLeft, RefusesClose}
+use Rattle.mg_engine_meaning.specs.Closings.{ClosesEngine, HasLeft, LeavesAll, RefusesClose}
 use Rattle.mg_engine_meaning.specs.NewBegins.{NewBegin}
 use Rattle.mg_engine_meaning.specs.Openings.{IsOpenedOver}
 use Rattle.mg_engine_meaning.specs.LawfulLaws.{left_of, opening_of}
@@ -22,19 +23,23 @@ use Rattle.mg_model.specs.Legal.{durable_count}
 use Rattle.mg_model.specs.declared.opening.Opening.{Opening}
 use Rattle.mg_model.specs.declared.refusal.Refusal.{Refusal}
 use Rattle.mg_model.specs.declared.refusal.Refusal.TheVariants as refusals
+use Rattle.mg_records.specs.Needed.{AreFullForCause, pages_needed}
 use Rattle.mg_script.specs.declared.line.Line.{Line}
 use Rattle.mg_script_ends.specs.Ends.{told_first}
 use Rattle.mg_scripts.specs.declared.lines.LinesEnd.{LinesEnd}
 use Rattle.mg_scripts.specs.declared.lines.LinesEnd.TheVariants as lines_ends
 use Rattle.mg_scripts.specs.Ending.{IsUnbegun, ScriptDone, ScriptRan, reason_at}
 use Rattle.mg_sessions.specs.Accounts.{Accounts}
+use Rattle.mg_space.specs.FreePages.{HasFree}
 use Rattle.mg_space.specs.ViewLaws.{CountsNow}
 use Rattle.mg_run_ends.specs.declared.ending.RunEnd.{RunEnd}
 use Rattle.mg_run_ends.specs.declared.ending.RunEnd.TheVariants.{Outside, Whole}
 use Rattle.mg_run_ends.specs.Ends.{last_line}
 use Rattle.mg_runs.specs.BegunLaws.{stands_over}
-use Rattle.mg_runs.specs.Entry.{IsEntry}
+use Rattle.mg_runs.specs.Entry.{IsEntry, limit_on}
 use Rattle.mg_runs.specs.EntryLaws.{has_ended}
+use Rattle.mg_runs.specs.GoingOn.{GoesOnAt}
+use Rattle.mg_runs.specs.GoingOnLaws.{asked_grows, free_stays, goes_on_at}
 use Rattle.mg_runs.specs.Headline.{AreServed, EndsBehind, HasEnded, Headline, IsClosingRefusal, IsSettledAt, IsUnjudged}
 use Rattle.mg_runs.specs.Laws.{IsCutOff, RunsClose, RunsStop, closed_end}
 use Rattle.mg_runs.specs.OpeningLaws.{crash_over, kept_over, nothing_settled, opening_leaves, size_over, sized_over}
@@ -57,12 +62,13 @@ some_held size o entries c holds = record {
   at_least = omega arith;
   at_most = holds.at_most;
   holds = holds.holds;
+  legal = holds.legal;
 }
 
 -- ---- lines that were obeyed
 
 module _ {D P K : Type 0} (m : Meaning D) (places : Places P) (n : SinkMeaning K) (counts : CountsNow m)
-    (new_begin : NewBegin) (disk : D) (limit : ℕ) (core now : Core D) (size : ℕ) (image : Image) (o : Opening)
+    (new_begin : NewBegin) (begin : OpeningsBegin) (own_new : OwnRowsAreNew) (disk : D) (limit : ℕ) (core now : Core D) (size : ℕ) (image : Image) (o : Opening)
     (lines : List Line) (lines_refusals : List Refusal) (lines_end : LinesEnd) (fine : Bool) (before mid : K)
     (entry : IsEntry m disk limit size image o) (opened : IsOpenedOver m disk limit core) where
   opening_crash : LeavesOnly m disk core.store.disk (HoldsFrom packed_form size o [] 0)
@@ -84,7 +90,7 @@ module _ {D P K : Type 0} (m : Meaning D) (places : Places P) (n : SinkMeaning K
   -- memory was short before the first line
   pub unbegun : (after : K) (end : RunEnd) → IsUnbegun core now before mid lines_refusals lines_end
       → EndsBehind lines_end lines_refusals fine end → IsPrinted n mid after (last_line end)
-      → Headline m n size o lines disk now.store.disk before after end
+      → Headline m n size (limit_on limit image) o lines disk now.store.disk before after end
   unbegun after end none ends last = record {
     entries = [];
     served = inr (record {
@@ -100,6 +106,8 @@ module _ {D P K : Type 0} (m : Meaning D) (places : Places P) (n : SinkMeaning K
         opening_crash;
     exit = λ c may. subst (λ (s : ℕ). HoldsAcknowledged packed_form s o [] c) core_size
         (left_of m core o [] opened_stands c (subst (λ (k : Core D). MayLeave m k.store.disk c) none.keeper may));
+    goes_on = λ least c from. goes_on_at begin own_new size o [] least c (begin o (opening_of m core o [] opened_stands))
+        opened_stands.grows from;
     settled = subst (IsSettledAt m now.store.disk size o []) (sym end_is) tt;
     unjudged = subst IsUnjudged (sym end_is) tt;
     tells = ap (λ (c : Core D). m.tells c.store.disk) none.keeper ∙ opened.same.tells;
@@ -115,6 +123,9 @@ module _ {D P K : Type 0} (m : Meaning D) (places : Places P) (n : SinkMeaning K
       (accounts : Accounts (means_with_room m places) core now (reason_at lines_end lines_refusals)) where
     geometry_now : now.store.geometry.size ≡ size
     geometry_now = alike now.store.geometry.size core.store.geometry.size accounts.sizes ∙ size_is
+
+    limit_now : now.store.geometry.limit ≡ limit_on limit image
+    limit_now = accounts.page_limit ∙ opened.limit_is image entry.settled.tells.held
 
     now_size : now.store.dirty.size ≡ size
     now_size = now_is.pool.page_size ∙ geometry_now
@@ -154,6 +165,12 @@ module _ {D P K : Type 0} (m : Meaning D) (places : Places P) (n : SinkMeaning K
     left_now c may = subst (λ (s : ℕ). HoldsAcknowledged packed_form s o ran.entries c) now_size
         (left_of m now o ran.entries ran.stands.stands c may)
 
+    all_go_on : (least : ℕ) (c : Image) (from : HoldsFrom packed_form size o (asked ran.entries) least c)
+        → GoesOnAt size o (asked ran.entries) from.k c
+    all_go_on least c from = goes_on_at begin own_new size o (asked ran.entries) least c
+        (begin o (opening_of m now o ran.entries ran.stands.stands))
+        (asked_grows o ran.entries ran.stands.stands.grows) from
+
     are_served : (after : K) (end : RunEnd) → EndsBehind lines_end lines_refusals fine end
         → IsPrinted n mid after (last_line end) → AreServed n before after size o lines end ran.entries
     are_served after end ends last = record {
@@ -174,14 +191,15 @@ module _ {D P K : Type 0} (m : Meaning D) (places : Places P) (n : SinkMeaning K
 
     pub stopped : (after : K) (end : RunEnd) → EndsBehind lines_end lines_refusals fine end
         → IsPrinted n mid after (last_line end) → IsSettledAt m now.store.disk size o ran.entries end
-        → Headline m n size o lines disk now.store.disk before after end
+        → Headline m n size (limit_on limit image) o lines disk now.store.disk before after end
     stopped after end ends last settled = record {
       entries = ran.entries;
       served = inl (are_served after end ends last);
       legal = ran.legal;
-      room = ran.stands.full;
+      room = subst (λ (most : ℕ). AreFullForCause most o ran.entries) limit_now ran.stands.full;
       crash = so_far;
       exit = left_now;
+      goes_on = all_go_on;
       settled = settled;
       unjudged = end_unjudged end ends;
       tells = tells_now;
@@ -202,27 +220,41 @@ module _ {D P K : Type 0} (m : Meaning D) (places : Places P) (n : SinkMeaning K
 
       pub closed : (after : K) (end : RunEnd) → EndsBehind lines_end lines_refusals fine end
           → IsPrinted n mid after (last_line end) → IsSettledAt m new size o ran.entries end
-          → Headline m n size o lines disk new before after end
+          → Headline m n size (limit_on limit image) o lines disk new before after end
       closed after end ends last settled = record {
         entries = ran.entries;
         served = inl (are_served after end ends last);
         legal = ran.legal;
-        room = ran.stands.full;
+        room = subst (λ (most : ℕ). AreFullForCause most o ran.entries) limit_now ran.stands.full;
         crash = all_crash;
         exit = its_crash.left;
+        goes_on = all_go_on;
         settled = settled;
         unjudged = end_unjudged end ends;
         tells = closes.same.tells ∙ tells_now;
         sized = closes.same.size size sized_now;
       }
 
-      pub ended : OpeningsBegin → OwnRowsAreNew → (x : Unit {0}) → ClosesEngine m now new (Ok x)
-          → HasEnded m new size o ran.entries
-      ended begin own_new x closed_so = has_ended begin own_new m new size o ran.entries
+      -- what is left of the pages that were promised is free by the greatest page limit, too
+      abbrev LeftWithRoom : ℕ → Type 0
+      LeftWithRoom s = (left : HasLeft m new s o ran.entries (durable_count ran.entries))
+          × ((count : ℕ) → pages_needed o ran.entries + count ≤ o.free
+          → HasFree (record { size = s; limit = GREATEST_LIMIT }) (page_at s left.image) count)
+
+      left_with_room : LeavesAll m now new o ran.entries → LeftWithRoom size
+      left_with_room all = subst LeftWithRoom geometry_now (
+        all.left,
+        λ count within. free_stays now.store.geometry.size now.store.geometry.limit GREATEST_LIMIT
+            (page_at now.store.geometry.size all.left.image) count now_is.geometry.limit
+            (all.free count (ran.stands.left count within)),
+      )
+
+      pub ended : (x : Unit {0}) → ClosesEngine m now new (Ok x) → HasEnded m new size o ran.entries
+      ended x closed_so =
+          let left = left_with_room (closed_so.ended.2 o ran.entries ran.stands.stands) in
+          has_ended begin own_new m new size o ran.entries
           (begin o (opening_of m now o ran.entries ran.stands.stands)) ran.legal ran.stands.stands.grows
-          (closes.same.size size sized_now) entry.lawful entry.whole
-          (subst (λ (s : ℕ). HasLeft m new s o ran.entries (durable_count ran.entries)) geometry_now
-          (closed_so.ended.2 o ran.entries ran.stands.stands))
+          (closes.same.size size sized_now) entry.lawful entry.whole left.0 left.1
 
 -- ---- a run that is cut off
 
@@ -242,16 +274,16 @@ cut_settled m new size o entries lines_ends.SinkFailed lines_refusals fine end c
     subst (IsSettledAt m new size o entries) (sym ends) tt
 
 pub runs_stop : {D P K : Type 0} (m : Meaning D) (places : Places P) (n : SinkMeaning K) → CountsNow m
-    → NewBegin → RunsStop m places n
-runs_stop {D} {P} {K} m places n counts new_begin disk limit core now size image o lines lines_refusals lines_end
+    → NewBegin → OpeningsBegin → OwnRowsAreNew → RunsStop m places n
+runs_stop {D} {P} {K} m places n counts new_begin begin own_new disk limit core now size image o lines lines_refusals lines_end
     fine end before mid after entry opened now_is accounts done cut ends last = at done
   where
     at : ScriptDone (means_with_room m places) n core now before mid o size lines lines_refusals lines_end fine
-        → Headline m n size o lines disk now.store.disk before after end
-    at (inl ran) = stopped m places n counts new_begin disk limit core now size image o lines lines_refusals
+        → Headline m n size (limit_on limit image) o lines disk now.store.disk before after end
+    at (inl ran) = stopped m places n counts new_begin begin own_new disk limit core now size image o lines lines_refusals
         lines_end fine before mid entry opened ran now_is accounts after end ends last
         (cut_settled m now.store.disk size o ran.entries lines_end lines_refusals fine end cut ends)
-    at (inr none) = unbegun m places n counts new_begin disk limit core now size image o lines lines_refusals
+    at (inr none) = unbegun m places n counts new_begin begin own_new disk limit core now size image o lines lines_refusals
         lines_end fine before mid entry opened after end none ends last
 
 -- ---- a run whose database is closed
@@ -288,16 +320,16 @@ runs_close {D} {P} {K} m places n counts new_begin begin own_new disk new limit 
     with_ran : (ran : ScriptRan (means_with_room m places) n core now before mid o size lines [] lines_ends.Whole fine)
         → (it : Result (Unit {0}) Refusal) → ClosesEngine m now new it
         → IsPrinted n mid after (last_line (closed_end fine it))
-        → Headline m n size o lines disk new before after (closed_end fine it)
-    with_ran ran (Ok x) ends printed = closed m places n counts new_begin disk limit core now size image o lines []
-        lines_ends.Whole fine before mid entry opened ran now_is accounts new (Ok x) ends after (Whole fine) refl
-        printed (ended m places n counts new_begin disk limit core now size image o lines [] lines_ends.Whole fine before
-        mid entry opened ran now_is accounts new (Ok x) ends begin own_new x ends)
-    with_ran ran (Err refusal) ends printed = closed m places n counts new_begin disk limit core now size image o lines
-        [] lines_ends.Whole fine before mid entry opened ran now_is accounts new (Err refusal) ends after (Outside refusal)
+        → Headline m n size (limit_on limit image) o lines disk new before after (closed_end fine it)
+    with_ran ran (Ok x) ends printed = closed m places n counts new_begin begin own_new disk limit core now size image o
+        lines [] lines_ends.Whole fine before mid entry opened ran now_is accounts new (Ok x) ends after (Whole fine) refl
+        printed (ended m places n counts new_begin begin own_new disk limit core now size image o lines []
+        lines_ends.Whole fine before mid entry opened ran now_is accounts new (Ok x) ends x ends)
+    with_ran ran (Err refusal) ends printed = closed m places n counts new_begin begin own_new disk limit core now size
+        image o lines [] lines_ends.Whole fine before mid entry opened ran now_is accounts new (Err refusal) ends after (Outside refusal)
         (closing_refusal m now new refusal ends.ended) printed tt
 
     at : ScriptDone (means_with_room m places) n core now before mid o size lines [] lines_ends.Whole fine
-        → Headline m n size o lines disk new before after (closed_end fine result)
+        → Headline m n size (limit_on limit image) o lines disk new before after (closed_end fine result)
     at (inl ran) = with_ran ran result closes last
     at (inr none) = let short = none.short in absurd cc

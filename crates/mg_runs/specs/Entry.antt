@@ -15,16 +15,20 @@ use Rattle.mg_survey.specs.Survey.{limit_of}
 
 -- ---- openings
 
--- the geometry by which an engine opens a disk that holds an image: its page limit is the greater of the one that
--- was asked for and the disk's number of pages
+-- the page limit by which an engine opens a disk that holds an image: the greater of the one that was asked for and the
+-- disk's number of pages
+abbrev pub limit_on : ℕ → Image → ℕ
+limit_on limit image = limit_of limit (length image)
+
+-- the geometry by which it opens it
 abbrev pub geometry_at : ℕ → ℕ → Image → Geometry
-geometry_at size limit image = record { size = size; limit = limit_of limit (length image) }
+geometry_at size limit image = record { size = size; limit = limit_on limit image }
 
 -- What a history begins with that stands on an image, which is opened with a page limit: on one on which a database
 -- may be made a new database, on a sound one what it holds; and so many pages are free as it promises. In a new
 -- database the pages of the first region behind the seventh are.
 pub data IsOpeningOf (size limit : ℕ) (image : Image) : Opening → Type 0 where
-  of_new : (free : ℕ) → IsUnmadeImage size image → 7 + free ≤ limit_of limit (length image) → 7 + free ≤ bits size
+  of_new : (free : ℕ) → IsUnmadeImage size image → 7 + free ≤ limit_on limit image → 7 + free ≤ bits size
       → IsOpeningOf size limit image (new_history free)
   of_sound : (o : Opening) → BeginsWith size image o → HasFree (geometry_at size limit image) (page_at size image) o.free
       → IsOpeningOf size limit image o

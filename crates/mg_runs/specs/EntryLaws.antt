@@ -1,5 +1,5 @@
 -- Disks on which a history can begin: those in memory without pages, and those that a run has left.
-use Rattle.std.proofs.Common.{◌≡◌, ◌∙◌, inl, ℕ, Bool, true, false, List, [], Option, Some, refl, ap, subst, length, arith}
+use Rattle.std.proofs.Common.{◌≡◌, ◌≤◌, ◌+◌, ◌∙◌, inl, ℕ, Bool, true, false, List, [], Option, Some, refl, sym, ap, subst, length}
 use Rattle.mg_base.specs.Acts.{Act, Leaves, Left, acts_of, image_of, leaves_left}
 use Rattle.mg_base.specs.Disk.{Meaning}
 use Rattle.mg_base.specs.Geometry.{is_page_size}
@@ -7,23 +7,26 @@ use Rattle.mg_base.specs.Image.{Image, page_at}
 use Rattle.mg_base.specs.FaultyDisk.{disk_of}
 use Rattle.mg_base.specs.MemDisk.{acts_in, mem_meaning, writes_of}
 use Rattle.mg_base.specs.declared.obeyed.Obeyed.{Obeyed}
-use Rattle.mg_base.specs.declared.geometry.Geometry.{Geometry}
+use Rattle.mg_base.specs.declared.geometry.TheConstants.{GREATEST_LIMIT}
 use Rattle.mg_engine_meaning.specs.Closings.{HasLeft}
-use Rattle.mg_engine_meaning.specs.ComposeLaws.{begins_with, goes_on_from}
+use Rattle.mg_engine_meaning.specs.ComposeLaws.{begins_with, goes_on_from, next_is}
 use Rattle.mg_grown_catalogs.specs.Grown.{CatalogGrows, OwnRowsAreNew}
-use Rattle.mg_image.specs.Form.{Pages, packed_form}
+use Rattle.mg_image.specs.Form.{packed_form}
 use Rattle.mg_image_openings.specs.Begun.{begun}
 use Rattle.mg_image_openings.specs.Openings.{packed_fitting}
 use Rattle.mg_model.specs.History.{Entries}
 use Rattle.mg_model.specs.Laws.{OpeningsBegin}
-use Rattle.mg_model.specs.Legal.{IsLegal, MayBegin, durable_count}
+use Rattle.mg_lasting.specs.CrashLaws.{after_legal}
+use Rattle.mg_model.specs.Legal.{IsLegal, MayBegin, after_durable, durable_count}
+use Rattle.mg_records.specs.Needed.{pages_needed}
 use Rattle.mg_model.specs.declared.opening.Opening.{Opening}
 use Rattle.mg_new_databases.specs.Soundness.{HasWholePages, MemDisksAreWhole}
 use Rattle.mg_space.specs.FreePages.{HasFree}
-use Rattle.mg_runs.specs.Entry.{TellsWholePages, geometry_at, of_new, of_sound}
+use Rattle.mg_runs.specs.Entry.{TellsWholePages, of_new, of_sound, promising}
 use Rattle.mg_runs.specs.Headline.{HasEnded}
 use Rattle.mg_runs.specs.Laws.{BlankIsEntry, FaultyIsEntry, SettledIsEntry}
 use Rattle.mg_runs.specs.MemLaws.{crashes_whole}
+use Rattle.mg_runs.specs.PromisingLaws.{any_free_begins}
 
 -- ---- disks in memory
 
@@ -95,28 +98,32 @@ faulty_is_entry disk limit size image o entry = record {
 
 -- ---- disks that a run has left
 
--- where no page is promised, none has to be free
-none_free : (g : Geometry) (pages : Pages) → HasFree g pages 0
-none_free g pages = record {
-  page = λ i. i;
-  free = λ i inside. absurd (omega (arith, inside));
-  apart = λ i j one other same. absurd (omega (arith, one));
-}
-
 pub has_ended : OpeningsBegin → OwnRowsAreNew → {D : Type 0} (m : Meaning D) (disk : D) (size : ℕ) (o : Opening)
     (h : Entries) → MayBegin o → IsLegal o h → CatalogGrows o h → m.size disk ≡ Some size
-    → is_page_size size ≡ true → TellsWholePages m size → HasLeft m disk size o h (durable_count h) → HasEnded m disk size o h
-has_ended begin own_new m disk size o h opening legal grows sized lawful whole left = record {
+    → is_page_size size ≡ true → TellsWholePages m size → (left : HasLeft m disk size o h (durable_count h))
+    → ((count : ℕ) → pages_needed o h + count ≤ o.free
+    → HasFree (record { size = size; limit = GREATEST_LIMIT }) (page_at size left.image) count)
+    → HasEnded m disk size o h
+has_ended begin own_new m disk size o h opening legal grows sized lawful whole left room = record {
   left = left;
   later = begun packed_form packed_fitting size (page_at size left.image) left.holds.opened left.sound;
-  goes_on = goes_on_from begin own_new m disk size o h (durable_count h) opening legal grows left;
-  entry = λ limit. record {
+  goes_on = goes_on_from begin own_new size left.image o h (durable_count h) opening until grows left.holds left.sound;
+  next = sym (next_is begin own_new size left.image o h (durable_count h) opening until grows left.holds left.sound)
+      ∙ left.next;
+  free = room;
+  entry = λ limit free has. record {
     sized = sized;
     lawful = lawful;
     whole = whole;
     settled = left.settled;
-    opening = of_sound (begun packed_form packed_fitting size (page_at size left.image) left.holds.opened left.sound)
-        (begins_with begin own_new m disk size o h (durable_count h) opening legal grows left)
-        (none_free (geometry_at size limit left.image) (page_at size left.image));
+    opening = of_sound
+        (promising free (begun packed_form packed_fitting size (page_at size left.image) left.holds.opened left.sound))
+        (any_free_begins size left.image
+        (begun packed_form packed_fitting size (page_at size left.image) left.holds.opened left.sound) free
+        (begins_with begin own_new size left.image o h (durable_count h) opening until grows left.holds left.sound
+        left.plain)) has;
   };
 }
+  where
+    until : IsLegal o (after_durable h (durable_count h))
+    until = after_legal o h (durable_count h) legal

@@ -1,9 +1,10 @@
 -- What the program promises of a run, in the terms of one history.
-use Rattle.std.specs.Prelude.{◌≡◌, ◌⊎◌, ℕ, Bool, List, [], ◌∷◌, Some}
+use Rattle.std.specs.Prelude.{◌≡◌, ◌⊎◌, ◌≤◌, ◌+◌, ℕ, Bool, List, [], ◌∷◌, Some}
 use Rattle.mg_base.specs.Disk.{MayLeave, Meaning}
-use Rattle.mg_base.specs.Image.{Image}
+use Rattle.mg_base.specs.Image.{Image, page_at}
 use Rattle.mg_base.specs.Moments.{LeavesOnly}
 use Rattle.mg_base.specs.Streams.{SinkMeaning}
+use Rattle.mg_base.specs.declared.geometry.TheConstants.{GREATEST_LIMIT}
 use Rattle.mg_engine_meaning.specs.Closings.{GoesOnFrom, HasLeft}
 use Rattle.mg_engine_meaning.specs.Openings.{IsNoJudgement}
 use Rattle.mg_image.specs.Form.{packed_form}
@@ -13,7 +14,8 @@ use Rattle.mg_model.specs.declared.refusal.Refusal.{Refusal}
 use Rattle.mg_model.specs.declared.refusal.Refusal.TheVariants.{DiskRead, DiskWrite, Memory, Offline}
 use Rattle.mg_model.specs.History.{Entries}
 use Rattle.mg_model.specs.Legal.{IsLegal, durable_count}
-use Rattle.mg_records.specs.Needed.{AreFullForCause}
+use Rattle.mg_model.specs.Machine.{next_number}
+use Rattle.mg_records.specs.Needed.{AreFullForCause, pages_needed}
 use Rattle.mg_script.specs.declared.line.Line.{Line}
 use Rattle.mg_script_ends.specs.Ends.{told_first}
 use Rattle.mg_scripts.specs.declared.lines.LinesEnd.{LinesEnd}
@@ -25,7 +27,9 @@ use Rattle.mg_transcript.specs.Sessions.{Unfinished}
 use Rattle.mg_run_ends.specs.declared.ending.RunEnd.{RunEnd}
 use Rattle.mg_run_ends.specs.declared.ending.RunEnd.TheVariants.{Whole, InLine, Outside, Stream, ScriptTooLong}
 use Rattle.mg_run_ends.specs.Ends.{IsOutside, last_line}
-use Rattle.mg_runs.specs.Entry.{IsEntry}
+use Rattle.mg_space.specs.FreePages.{HasFree}
+use Rattle.mg_runs.specs.Entry.{IsEntry, geometry_at, promising}
+use Rattle.mg_runs.specs.GoingOn.{GoesOnAt}
 use Rattle.mg_run_ends.specs.Printing.{IsPrinted}
 
 -- ---- how a run ends behind its lines
@@ -100,14 +104,19 @@ pub record AreUnserved {K : Type 0} (n : SinkMeaning K) (before after : K) (end 
 -- ---- what is left
 
 -- A disk has what a run left whose database was closed: nothing is pending, and its image holds the history with all
--- its durable events. A history can begin with it that goes on from there, so a second run has its premises, whatever
--- page limit it asks for.
+-- its durable events, and the number that it draws next. A history can begin with it that goes on from there, so a second
+-- run has its premises, whatever page limit it asks for, with any number of pages that are free on the image by that
+-- limit; and by the greatest limit those are that were promised to the first run and that it has not needed.
 pub record HasEnded {D : Type 0} (m : Meaning D) (disk : D) (size : ℕ) (o : Opening) (entries : Entries) : Type 0
   where
     pub left : HasLeft m disk size o entries (durable_count entries)
     pub later : Opening
     pub goes_on : GoesOnFrom o entries (durable_count entries) later
-    pub entry : (limit : ℕ) → IsEntry m disk limit size left.image later
+    pub next : later.next.0 ≡ next_number o entries
+    pub free : (count : ℕ) → pages_needed o entries + count ≤ o.free
+        → HasFree (record { size = size; limit = GREATEST_LIMIT }) (page_at size left.image) count
+    pub entry : (limit free : ℕ) → HasFree (geometry_at size limit left.image) (page_at size left.image) free
+        → IsEntry m disk limit size left.image (promising free later)
 
 -- where the database was closed, it is settled
 abbrev pub IsSettledAt : {D : Type 0} → Meaning D → D → ℕ → Opening → Entries → RunEnd → Type 0
@@ -119,17 +128,21 @@ IsSettledAt m new size o entries end = Unit {0}
 -- A run over a disk on which a history can begin: there is one legal history of its lines. The sink took its
 -- transcript, and the line that says why the run has ended; every image that a crash since the start might have left
 -- holds what the history has after some durable event, and each that a crash may leave at the end has all that were
--- acknowledged. With enough free pages for it and for those before it no entry is answered DATABASE FULL.
-pub record Headline {D K : Type 0} (m : Meaning D) (n : SinkMeaning K) (size : ℕ) (o : Opening)
+-- acknowledged. With enough free pages for it and for those before it no entry is answered DATABASE FULL, and where one
+-- is it names the page limit by which the disk was opened.
+pub record Headline {D K : Type 0} (m : Meaning D) (n : SinkMeaning K) (size limit : ℕ) (o : Opening)
     (lines : List Line) (old new : D) (before after : K) (end : RunEnd) : Type 0 where
   pub entries : Entries
   pub served : AreServed n before after size o lines end entries ⊎ AreUnserved n before after end entries
   pub legal : IsLegal o entries
   -- an entry is answered DATABASE FULL only where its event may take pages, and it needs more, with those before it, than
-  -- were promised
-  pub room : AreFullForCause o entries
+  -- were promised; and it names the page limit
+  pub room : AreFullForCause limit o entries
   pub crash : LeavesOnly m old new (HoldsFrom packed_form size o (asked entries) 0)
   pub exit : (c : Image) → MayLeave m new c → HoldsAcknowledged packed_form size o entries c
+  -- with each of those images a next history can begin, and it goes on from there
+  pub goes_on : (least : ℕ) (c : Image) (from : HoldsFrom packed_form size o (asked entries) least c)
+      → GoesOnAt size o (asked entries) from.k c
   pub settled : IsSettledAt m new size o entries end
   -- no page was found damaged, by the opening, a line, a rolling back at the end or the closing
   pub unjudged : IsUnjudged end

@@ -34,7 +34,7 @@ use Rattle.mg_survey.specs.Survey.{limit_of}
 use Rattle.mg_run_ends.specs.declared.ending.RunEnd.{RunEnd}
 use Rattle.mg_run_ends.specs.declared.ending.RunEnd.TheVariants.{Whole, Outside}
 use Rattle.mg_run_ends.specs.Ends.{FailsBy, FailsWith, IsOutside, last_line}
-use Rattle.mg_runs.specs.Entry.{IsEntry, IsOpeningOf, promising}
+use Rattle.mg_runs.specs.Entry.{IsEntry, IsOpeningOf, limit_on, promising}
 use Rattle.mg_runs.specs.Headline.{EndsBehind, Headline}
 use Rattle.mg_runs.specs.OtherFiles.{HoldsNoDatabase, RefusesFile}
 use Rattle.mg_run_ends.specs.Printing.{IsPrinted}
@@ -46,14 +46,14 @@ abbrev pub OpeningsAreJudged : {D K : Type 0} → Meaning D → SinkMeaning K �
 OpeningsAreJudged {D} {K} m n = (disk new : D) (limit : ℕ) (refusal : Refusal) (size : ℕ) (image : Image) (o : Opening)
     (lines : List Line) (end : RunEnd) (before after : K) → IsEntry m disk limit size image o
     → RefusesOpening m disk new limit refusal → IsOutside refusal end → IsPrinted n before after (last_line end)
-    → Headline m n size o lines disk new before after end
+    → Headline m n size (limit_on limit image) o lines disk new before after end
 
 -- a file that holds no database is refused at the opening, and not written,
 abbrev pub OtherFilesAreRefused : {D K : Type 0} → Meaning D → SinkMeaning K → Type 0
 OtherFilesAreRefused {D} {K} m n = (disk new : D) (limit : ℕ) (refusal : Refusal) (size : ℕ) (image : Image)
     (end : RunEnd) (before after : K) → HoldsNoDatabase m disk size image → RefusesOpening m disk new limit refusal
     → IsOutside refusal end → IsPrinted n before after (last_line end)
-    → RefusesFile m n size image disk new before after end
+    → RefusesFile m n limit size image disk new before after end
 
 -- and never opened
 abbrev pub OtherFilesAreUnopened : {D : Type 0} → Meaning D → Type 0
@@ -88,7 +88,7 @@ RunsStop {D} {P} {K} m places n = (disk : D) (limit : ℕ) (core now : Core D) (
     → Accounts (means_with_room m places) core now (reason_at lines_end refusals)
     → ScriptDone (means_with_room m places) n core now before mid o size lines refusals lines_end fine
     → IsCutOff lines_end refusals → EndsBehind lines_end refusals fine end → IsPrinted n mid after (last_line end)
-    → Headline m n size o lines disk now.store.disk before after end
+    → Headline m n size (limit_on limit image) o lines disk now.store.disk before after end
 
 -- the end of a run whose database was closed, or not
 abbrev pub closed_end : Bool → Result (Unit {0}) Refusal → RunEnd
@@ -103,7 +103,7 @@ RunsClose {D} {P} {K} m places n = (disk new : D) (limit : ℕ) (core now : Core
     → Accounts (means_with_room m places) core now (reason lines_ends.Whole)
     → ScriptDone (means_with_room m places) n core now before mid o size lines [] lines_ends.Whole fine
     → ClosesEngine m now new result → IsPrinted n mid after (last_line (closed_end fine result))
-    → Headline m n size o lines disk new before after (closed_end fine result)
+    → Headline m n size (limit_on limit image) o lines disk new before after (closed_end fine result)
 
 -- ---- faults of the disk
 

@@ -6,6 +6,10 @@ pub mod EndLaws
 pub mod Entry
 pub mod EntryLaws
 pub mod FaultLaws
+pub mod FileDamage
+pub mod FileDamageLaws
+pub mod GoingOn
+pub mod GoingOnLaws
 pub mod Headline
 pub mod Laws
 pub mod MemLaws

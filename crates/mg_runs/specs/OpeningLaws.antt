@@ -15,7 +15,9 @@ use Rattle.mg_header.specs.declared.header.TheConstants.{GREATEST_NEXT}
 use Rattle.mg_image.specs.Form.{packed_coding, packed_form}
 use Rattle.mg_image.specs.HistoryLaws.{opened_holds, unmade_holds}
 use Rattle.mg_image.specs.Opening.{sound_image}
+use Rattle.mg_grown_catalogs.specs.Grown.{OwnRowsAreNew}
 use Rattle.mg_lasting.specs.Crashes.{HoldsFrom}
+use Rattle.mg_model.specs.Laws.{OpeningsBegin}
 use Rattle.mg_model.specs.History.{Entries}
 use Rattle.mg_model.specs.declared.opening.Opening.{Opening}
 use Rattle.mg_model.specs.declared.refusal.Refusal.{Refusal}
@@ -27,6 +29,7 @@ use Rattle.mg_run_ends.specs.declared.ending.RunEnd.{RunEnd}
 use Rattle.mg_run_ends.specs.Ends.{IsOutside, last_line}
 use Rattle.mg_runs.specs.Entry.{IsOpeningOf, TellsWholePages, of_new, of_sound}
 use Rattle.mg_runs.specs.FaultLaws.{opening_fault}
+use Rattle.mg_runs.specs.GoingOnLaws.{goes_on_at, opening_is}
 use Rattle.mg_runs.specs.Headline.{AreUnserved, IsOpeningFault, IsSettledAt}
 use Rattle.mg_runs.specs.UnjudgedLaws.{outside_unjudged}
 use Rattle.mg_runs.specs.Laws.{OpeningsAreJudged}
@@ -43,6 +46,7 @@ begins_hold size image o it = record {
   at_most = omega arith;
   holds = opened_holds packed_form size (page_at size image) it.opened o 0 (sound_image it.sound) it.begins
       it.whole.first;
+  legal = tt;
 }
 
 pub is_sound : (size : ℕ) (image : Image) (o : Opening) → BeginsWith size image o → IsSoundImage size image
@@ -64,6 +68,7 @@ unmade_holds_from size free image unmade = record {
   at_least = omega arith;
   at_most = omega arith;
   holds = unmade_holds packed_form size (page_at size image) GREATEST_NEXT free 0 unmade;
+  legal = tt;
 }
 
 -- ---- what a crash leaves since an opening
@@ -162,8 +167,8 @@ nothing_settled m new size o entries refusal end (inr (other, is)) =
     subst (IsSettledAt m new size o entries) (sym is) tt
 
 pub openings_are_judged : {D K : Type 0} (m : Meaning D) (n : SinkMeaning K) → CountsNow m → NewBegin
-    → OpeningsAreJudged m n
-openings_are_judged m n counts new_begin disk new limit refusal size image o lines end before after entry refused ends last =
+    → OpeningsBegin → OwnRowsAreNew → OpeningsAreJudged m n
+openings_are_judged m n counts new_begin begin own_new disk new limit refusal size image o lines end before after entry refused ends last =
     record {
       entries = [];
       served = inr (unserved n before after refusal end (opening_fault m disk new limit refusal image
@@ -174,6 +179,8 @@ openings_are_judged m n counts new_begin disk new limit refusal size image o lin
       crash = leaves;
       exit = λ c may. leaves.each c (counts new (m.moment disk) c
           (refused.same.tells ∙ entry.settled.tells.told) leaves.later may);
+      goes_on = λ least c from. goes_on_at begin own_new size o [] least c
+          (begin o (opening_is size limit image o entry.opening).0) (opening_is size limit image o entry.opening).1 from;
       settled = nothing_settled m new size o [] refusal end ends;
       unjudged = outside_unjudged refusal end
           (not_judged m disk new limit refusal size image refused entry.sized entry.settled o entry.opening) ends;

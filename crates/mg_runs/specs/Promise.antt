@@ -29,15 +29,15 @@ pub record IsUnread {D K : Type 0} (n : SinkMeaning K) (old new : D) (before aft
     pub last : IsPrinted n before after (last_line end)
 
 -- The script was not read to its end; or it was, and its lines have their history.
-abbrev pub Promise : {D K : Type 0} → Meaning D → SinkMeaning K → ℕ → Opening → List ℕ → D → D → K → K
+abbrev pub Promise : {D K : Type 0} → Meaning D → SinkMeaning K → ℕ → ℕ → Opening → List ℕ → D → D → K → K
     → RunEnd → Type 0
-Promise m n size o script old new before after end = IsUnread n old new before after end
-    ⊎ ((lines : List Line) × IsScript script lines × Headline m n size o lines old new before after end)
+Promise m n size limit o script old new before after end = IsUnread n old new before after end
+    ⊎ ((lines : List Line) × IsScript script lines × Headline m n size limit o lines old new before after end)
 
 -- Over a file that holds no database the script was not read to its end; or it was, and the file is refused.
-abbrev pub LeavesFile : {D K : Type 0} → Meaning D → SinkMeaning K → ℕ → Image → D → D → K → K → RunEnd → Type 0
-LeavesFile m n size image old new before after end = IsUnread n old new before after end
-    ⊎ RefusesFile m n size image old new before after end
+abbrev pub LeavesFile : {D K : Type 0} → Meaning D → SinkMeaning K → ℕ → ℕ → Image → D → D → K → K → RunEnd → Type 0
+LeavesFile m n limit size image old new before after end = IsUnread n old new before after end
+    ⊎ RefusesFile m n limit size image old new before after end
 
 -- ---- causes, over any disk and any streams
 

@@ -2,6 +2,7 @@
 
 ghost use Rattle.mg_engine_meaning.specs.Meaning.{Places};
 ghost use Rattle.mg_runs.specs.Acknowledged.{LinesAreHeld};
+ghost use Rattle.mg_runs.specs.GoingOn.{FreeStays, LeftIsEntry};
 ghost use Rattle.mg_runs.specs.Laws.{AnyFreeBegins, BlankIsEntry, ClosingsFail, LinesFail, OpeningsAreJudged, OpeningsFail, OtherFilesAreRefused, OtherFilesAreUnopened, FaultyIsEntry, ForcedIsEntry, RunsBegin, RunsClose, RunsStop, SettledIsEntry};
 
 use mg_base::{Disk, Sink};
@@ -15,6 +16,8 @@ pub fn openings_are_judged<D: Disk, K: Sink>()
     ensures { OpeningsAreJudged D.meaning K.meaning }
 {
     new_databases_begin();
+    histories_go_on();
+    catalogs_grow();
 }
 
 /// A file that holds no database is refused at the opening, and not written; no engine is opened over it.
@@ -41,6 +44,8 @@ pub fn runs_stop<D: Disk, P, K: Sink>()
     ensures { (places : Places P) → RunsStop D.meaning places K.meaning }
 {
     new_databases_begin();
+    histories_go_on();
+    catalogs_grow();
 }
 
 /// A run ends, and its database is closed, or that is refused.
@@ -51,6 +56,13 @@ pub fn runs_close<D: Disk, P, K: Sink>()
     histories_go_on();
     catalogs_grow();
 }
+
+/// What a run has left, whole or cut off, is what a next run can begin with, and by a greater page limit as many pages of
+/// it are free.
+pub fn what_is_left_is_an_entry<D: Disk>()
+    ensures entry { LeftIsEntry D.meaning }
+    ensures free { FreeStays }
+{}
 
 /// What the disk refuses at the opening comes only where its count of faults rose, and any other refusal only where that
 /// stands.

@@ -28,7 +28,7 @@ module _ {R P : Type 0} (m : Means R P) (old mid new : R) where
   caused_once x later (Damaged page field found wanted) cause =
       rose_then (m.damage old) (m.damage mid) (m.damage new) cause later.damage
   caused_once x later (DatabaseFull limit) cause =
-      rose_then (m.shortages old) (m.shortages mid) (m.shortages new) cause later.shortages
+      (rose_then (m.shortages old) (m.shortages mid) (m.shortages new) cause.0 later.shortages, cause.1)
   caused_once x later (Offline count) (inl down) = inl down
   caused_once x later (Offline count) (inr rose) =
       inr (rose_then (m.faults old) (m.faults mid) (m.faults new) rose later.faults)

@@ -22,6 +22,7 @@ no_frames m r n = record {
   down = inl refl;
   tells = refl;
   most_writes = refl;
+  page_limit = refl;
   time = λ told. record { later = omega arith; keeps = λ t c within was. was };
   sizes = λ size. refl;
   given = λ table was. was;

@@ -20,6 +20,7 @@ account_of m old new t refusal frames = record {
   cause = frames.cause;
   down = frames.down;
   most_writes = frames.most_writes;
+  page_limit = frames.page_limit;
   sizes = frames.sizes;
 }
 
@@ -34,6 +35,7 @@ no_account m r refusal cause = record {
   cause = cause;
   down = inl refl;
   most_writes = refl;
+  page_limit = refl;
   sizes = λ size. refl;
 }
 
@@ -64,18 +66,18 @@ down_then m old mid new first second (inl a) (inr b) =
 blamed_last : {R P : Type 0} (m : Means R P) (old mid new : R) (refusal : Option Refusal)
     → m.faults old ≤ m.faults mid → m.damage old ≤ m.damage mid → m.shortages old ≤ m.shortages mid
     → m.faults mid ≤ m.faults new
-    → (m.down mid ≡ m.down old) ⊎ Rose (m.faults old) (m.faults mid) → Blames m mid new refusal
-    → Blames m old new refusal
-blamed_last m old mid new None f d s g down cause = tt
-blamed_last m old mid new (Some (DiskRead count)) f d s g down cause =
+    → (m.down mid ≡ m.down old) ⊎ Rose (m.faults old) (m.faults mid) → m.page_limit mid ≡ m.page_limit old
+    → Blames m mid new refusal → Blames m old new refusal
+blamed_last m old mid new None f d s g down limits cause = tt
+blamed_last m old mid new (Some (DiskRead count)) f d s g down limits cause =
     then_rose (m.faults old) (m.faults mid) (m.faults new) f cause
-blamed_last m old mid new (Some (DiskWrite count)) f d s g down cause =
+blamed_last m old mid new (Some (DiskWrite count)) f d s g down limits cause =
     then_rose (m.faults old) (m.faults mid) (m.faults new) f cause
-blamed_last m old mid new (Some (Damaged page field found wanted)) f d s g down cause =
+blamed_last m old mid new (Some (Damaged page field found wanted)) f d s g down limits cause =
     then_rose (m.damage old) (m.damage mid) (m.damage new) d cause
-blamed_last m old mid new (Some (DatabaseFull limit)) f d s g down cause =
-    then_rose (m.shortages old) (m.shortages mid) (m.shortages new) s cause
-blamed_last m old mid new (Some (Offline count)) f d s g down cause = by down cause
+blamed_last m old mid new (Some (DatabaseFull limit)) f d s g down limits cause =
+    (then_rose (m.shortages old) (m.shortages mid) (m.shortages new) s cause.0, cause.1 ∙ limits)
+blamed_last m old mid new (Some (Offline count)) f d s g down limits cause = by down cause
   where
     by : (m.down mid ≡ m.down old) ⊎ Rose (m.faults old) (m.faults mid)
         → (m.down mid ≡ Some count) ⊎ Rose (m.faults mid) (m.faults new)
@@ -83,13 +85,14 @@ blamed_last m old mid new (Some (Offline count)) f d s g down cause = by down ca
     by (inl same) (inl is) = inl (sym same ∙ is)
     by (inr rose) is = inr (rose_then (m.faults old) (m.faults mid) (m.faults new) rose g)
     by (inl same) (inr rose) = inr (then_rose (m.faults old) (m.faults mid) (m.faults new) f rose)
-blamed_last m old mid new (Some refusal) f d s g down cause = tt
+blamed_last m old mid new (Some refusal) f d s g down limits cause = tt
 
 -- the cause of what the second of two answers
 pub account_blames : {R P : Type 0} (m : Means R P) (old mid new : R) (a refusal : Option Refusal)
     → Accounts m old mid a → m.faults mid ≤ m.faults new → Blames m mid new refusal → Blames m old new refusal
 account_blames m old mid new a refusal first later cause =
-    blamed_last m old mid new refusal first.faults first.damage first.shortages later first.down cause
+    blamed_last m old mid new refusal first.faults first.damage first.shortages later first.down first.page_limit
+    cause
 
 -- the second of two says what is answered, and the first has told no fault
 pub account_then : {R P : Type 0} (m : Means R P) (old mid new : R) (a refusal : Option Refusal)
@@ -102,6 +105,7 @@ account_then m old mid new a refusal quiet first second = record {
   cause = account_blames m old mid new a refusal first second.faults second.cause;
   down = down_then m old mid new first.faults second.faults first.down second.down;
   most_writes = second.most_writes ∙ first.most_writes;
+  page_limit = second.page_limit ∙ first.page_limit;
   sizes = λ size. second.sizes size ∙ first.sizes size;
 }
 
@@ -121,6 +125,7 @@ account_first m old mid new refusal b quiet first second = record {
   cause = blames_first m old mid new refusal second.faults second.damage second.shortages first.cause;
   down = down_then m old mid new first.faults second.faults first.down second.down;
   most_writes = second.most_writes ∙ first.most_writes;
+  page_limit = second.page_limit ∙ first.page_limit;
   sizes = λ size. second.sizes size ∙ first.sizes size;
 }
 
@@ -135,5 +140,6 @@ untold_account m old new refusal quiet accounts = record {
   cause = tt;
   down = accounts.down;
   most_writes = accounts.most_writes;
+  page_limit = accounts.page_limit;
   sizes = accounts.sizes;
 }

@@ -17,4 +17,5 @@ pub record Accounts {R P : Type 0} (m : Means R P) (old new : R) (refusal : Opti
     pub cause : Blames m old new refusal
     pub down : (m.down new ≡ m.down old) ⊎ Rose (m.faults old) (m.faults new)
     pub most_writes : m.most_writes new ≡ m.most_writes old
+    pub page_limit : m.page_limit new ≡ m.page_limit old
     pub sizes : (size : ℕ) → m.is_size new size ≡ m.is_size old size

@@ -1,5 +1,5 @@
 -- One call, several calls, and none, for an active transaction.
-use Rattle.std.proofs.Common.{◌≡◌, ◌≤◌, ℕ, ◌==◌, ◌+◌, ◌<◌, not, Bool, true, false, ◌∷◌, Option, Some, None, Result, Ok, Err, inl, refl, sym, ap, ◌∙◌, arith, subst}
+use Rattle.std.proofs.Common.{◌≡◌, ◌≤◌, ℕ, ◌==◌, ◌+◌, ◌<◌, not, Bool, true, false, ◌∷◌, Option, Some, None, Result, Ok, Err, inl, refl, ap, arith, subst}
 use Rattle.std.specs.Prelude.{if◌then◌else◌}
 use Rattle.std.proofs.lemmas.Bool.{eq-eqb}
 use Rattle.mg_base.specs.declared.numbers.TxNo.{TxNo}
@@ -11,12 +11,10 @@ use Rattle.mg_model.specs.declared.event.Event.{Event}
 use Rattle.mg_model.specs.declared.event.Event.TheVariants as events
 use Rattle.mg_model.specs.declared.opening.Opening.{Opening}
 use Rattle.mg_model.specs.declared.refusal.Refusal.{Refusal}
-use Rattle.mg_model.specs.declared.refusal.Refusal.TheVariants.{DatabaseFull, NotActive}
 use Rattle.mg_model.specs.Answers.{is_active}
 use Rattle.mg_model.specs.History.{Entries, entry, transaction_of}
 use Rattle.mg_model.specs.Legal.{is_lasting}
 use Rattle.mg_model.specs.Machine.{state_of}
-use Rattle.mg_records.specs.Adding.{IsRefused}
 use Rattle.mg_records.specs.Committing.{WritesOne}
 use Rattle.mg_records.specs.Crashing.{CrashesHold, HoldsOn, LeavesQuietly, LeavesWith}
 use Rattle.mg_records.specs.Keeping.{FaultsAreTold, Keeps, Leaves, MeetsNoDamage, Reads}
@@ -28,7 +26,6 @@ use Rattle.mg_calls.specs.FrameLaws.{frames_after, frames_changes, frames_first,
 use Rattle.mg_rows.specs.declared.statement_fault.StatementFault.{StatementFault}
 use Rattle.mg_transcript.specs.Growing.{GrowsBy, as_it_was, by_one, grown_then}
 use Rattle.mg_transcript.specs.Shorthand.{stops_by}
-use Rattle.mg_transcript.specs.Steps.{is_outside}
 use Rattle.mg_courses.specs.Carrying.{Carries}
 use Rattle.mg_courses.specs.CarryLaws.{carries_none, carries_event, carries_lasting, carries_read, carries_read_at, carries_then}
 use Rattle.mg_courses.specs.Running.{refusal_of}
@@ -49,15 +46,6 @@ active_from Committed is = absurd cc
 pub ended_over : (t : ℕ) (old end : TxState) → is_active end ≡ false
     → is_active (if t == t then end else old) ≡ false
 ended_over t old end closed = rw (eq-eqb t t refl) closed
-
-pub refused_outside : (o : Opening) (h : Entries) (t : ℕ) (refusal : Refusal) → state_of o h t ≡ Active
-    → IsRefused o h t refusal → is_outside refusal ≡ true
-refused_outside o h t (NotActive state) active is = absurd (both state (sym is.0 ∙ active) is.1)
-  where
-    both : (state : TxState) → state ≡ Active → is_active state ≡ false → ⊥
-    both state same closed = absurd (cc (ap is_active same, closed))
-refused_outside o h t (DatabaseFull limit) active never = absurd never
-refused_outside o h t refusal active is = is
 
 -- ---- what is left of others
 
@@ -231,6 +219,7 @@ spares_none m r t = record {
     down = inl refl;
     tells = refl;
     most_writes = refl;
+    page_limit = refl;
     time = λ told. record { later = omega arith; keeps = λ t c within was. was };
     sizes = λ size. refl;
     given = λ table was. was;
@@ -302,6 +291,7 @@ spares_quiet m old new t refusal over cause spares = record {
     down = spares.frames.down;
     tells = spares.frames.tells;
     most_writes = spares.frames.most_writes;
+    page_limit = spares.frames.page_limit;
     time = spares.frames.time;
     sizes = spares.frames.sizes;
     given = spares.frames.given;

@@ -31,7 +31,7 @@ use Rattle.mg_rows.specs.declared.statement_fault.StatementFault.TheVariants.{En
 use Rattle.mg_script.specs.declared.reply.Reply.{Reply}
 use Rattle.mg_transcript.specs.Shorthand.{GivesUp, Puts, sees_none, finds_not, are_two_numbers, is_number, is_of_numbers, pair_of, put_event}
 use Rattle.mg_shorthand.specs.Keys.{sees_key, write_of}
-use Rattle.mg_shorthand.proofs.GoingLemmas.{refused_outside}
+use Rattle.mg_transcript.specs.OutsideLaws.{refused_outside}
 use Rattle.std.proofs.Common.{Result, Err}
 
 both : (a b : Bool) → (a && b) ≡ true → (a ≡ true) × (b ≡ true)

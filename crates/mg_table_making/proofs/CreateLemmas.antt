@@ -3,7 +3,7 @@ use Rattle.std.proofs.Common.{◌≡◌, ◌∙◌, ℕ, Bool, List, Result, Ok,
 use Rattle.std.specs.Prelude.{MatchResult, is_some, length}
 use Rattle.mg_base.specs.Disk.{Meaning}
 use Rattle.mg_base.specs.declared.numbers.TxNo.{TxNo}
-use Rattle.mg_core.specs.Refusing.{CountsFault, IsRefusal}
+use Rattle.mg_core.specs.Refusing.{CountsFault, IsRefusal, NamesLimit}
 use Rattle.mg_core.specs.Writing.{HasBegun}
 use Rattle.mg_core.specs.declared.parts.Core.{Core}
 use Rattle.mg_model.specs.declared.refusal.Refusal.{Refusal}
@@ -90,6 +90,7 @@ module _ {D : Type 0} (m : Meaning D) (old : Core D) (t : TxNo) (name : List ℕ
       (fault : SpaceFault) (refusal : Refusal) → kept ≡ kept_each t.0 old.catalog.pointer.0 keys old.works
       → un ≡ with_work t.0 unasked kept → gone ≡ retracted t.0 count un → count ≡ length keys
       → FailsTable m old.catalog t.0 name shape old.store store fault → IsRefusal fault refusal
+      → NamesLimit final.store.geometry.limit refusal
       → CountsFault fault old.damage final.damage old.shortages final.shortages
       → final ≡ record old {
         store = store;
@@ -97,10 +98,11 @@ module _ {D : Type 0} (m : Meaning D) (old : Core D) (t : TxNo) (name : List ℕ
         damage = final.damage;
         shortages = final.shortages;
       } → FailsPut m old final t name shape keys refusal
-  put_failed final store kept un gone count fault refusal keeps unasks retracts many fails is counts same = not_made (record {
+  put_failed final store kept un gone count fault refusal keeps unasks retracts many fails is names counts same = not_made (record {
     fault = fault;
     fails = subst (λ (s : Pool D FireLinks). FailsTable m old.catalog t.0 name shape old.store s fault) (sym now) fails;
     is = is;
+    names = names;
     counts = counts;
     same = same ∙ (ap (λ (ws : List Working). record old {
       store = store;

@@ -6,7 +6,7 @@ use Rattle.mg_core.specs.Cores.{Continues}
 use Rattle.mg_core.specs.Events.{EndsWait, IsRefused}
 use Rattle.mg_core.specs.Obstacles.{IsTold}
 use Rattle.mg_core.specs.Putting.{CountsOne}
-use Rattle.mg_core.specs.Refusing.{CountsFault, IsRefusal}
+use Rattle.mg_core.specs.Refusing.{CountsFault, IsRefusal, NamesLimit}
 use Rattle.mg_core.specs.Writing.{HasBegun, MayOnlyRead}
 use Rattle.mg_core.specs.declared.parts.Core.{Core}
 use Rattle.mg_model.specs.declared.refusal.Refusal.{Refusal}
@@ -49,6 +49,7 @@ pub record FailsMaking {D : Type 0} (m : Meaning D) (old new : Core D) (t : TxNo
   pub fault : SpaceFault
   pub fails : FailsTable m old.catalog t.0 name shape old.store new.store fault
   pub is : IsRefusal fault refusal
+  pub names : NamesLimit new.store.geometry.limit refusal
   pub counts : CountsFault fault old.damage new.damage old.shortages new.shortages
   pub same : new ≡ record old {
     store = new.store;

@@ -15,7 +15,7 @@ use Rattle.mg_undo.specs.Undo.{State as Undo, after_back_to, has_point}
 use Rattle.mg_works.specs.Works.{Working, unasked, with_undo, with_work, without_tables, without_written, work_of}
 use Rattle.mg_core.specs.Cores.{Continues}
 use Rattle.mg_core.specs.Events.{EndsWait}
-use Rattle.mg_core.specs.Refusing.{CountsFault, IsRefusal}
+use Rattle.mg_core.specs.Refusing.{CountsFault, IsRefusal, NamesLimit}
 use Rattle.mg_core.specs.declared.parts.Core.{Core}
 use Rattle.mg_taking_back.specs.Taking.{GivesUpBy, HasBegun, IsUndoOf, not_asking}
 use Rattle.mg_taking_back.specs.CoreLaws.{with_same}
@@ -41,14 +41,16 @@ left_same works set dropped now t end keys sets drops forgets u =
 -- a fault on the pages is told and counted
 pub fault_told : {D : Type 0} (m : Meaning D) (old new : Core D) (after : Pool D FireLinks) (t : ℕ) (keys : List Value)
     (fault : SpaceFault) (refusal : Refusal) → FailsRowsOut m old.store after (said old.list) old.live t old.catalog keys fault
-    → IsRefusal fault refusal → CountsFault fault old.damage new.damage old.shortages new.shortages
+    → IsRefusal fault refusal → NamesLimit new.store.geometry.limit refusal
+    → CountsFault fault old.damage new.damage old.shortages new.shortages
     → new ≡ record old { store = after; damage = new.damage; shortages = new.shortages }
     → FailsTheRows m old new t keys refusal
-fault_told {D} m old new after t keys fault refusal fails is counts same = record {
+fault_told {D} m old new after t keys fault refusal fails is names counts same = record {
   fault = fault;
   fails = subst (λ (s : Pool D FireLinks). FailsRowsOut m old.store s (said old.list) old.live t old.catalog keys fault)
       (sym stored) fails;
   is = is;
+  names = names;
   counts = counts;
   same = same ∙ ap (λ (s : Pool D FireLinks). record old { store = s; damage = new.damage; shortages = new.shortages })
       (sym stored);

@@ -15,7 +15,7 @@ use Rattle.mg_works.specs.Works.{Working, has_savepoint, with_undo, with_work, w
 use Rattle.mg_core.specs.declared.parts.Core.{Core}
 use Rattle.mg_core.specs.Cores.{Continues}
 use Rattle.mg_core.specs.Events.{EndsWait, IsRefused}
-use Rattle.mg_core.specs.Refusing.{CountsFault, IsRefusal}
+use Rattle.mg_core.specs.Refusing.{CountsFault, IsRefusal, NamesLimit}
 use Rattle.mg_taking_back.specs.Changes.{FailsChange}
 use Rattle.mg_taking_back.specs.Taking.{Gives, GivesUpBy, HasBegun, MayReach, TakesChanges, not_asking}
 use Rattle.mg_table_unmaking.specs.Rows.{FailsRowsOut, TakesRowsOut}
@@ -55,6 +55,7 @@ pub record FailsTheRows {D : Type 0} (m : Meaning D) (old new : Core D) (t : ℕ
   pub fault : SpaceFault
   pub fails : FailsRowsOut m old.store new.store (said old.list) old.live t old.catalog keys fault
   pub is : IsRefusal fault refusal
+  pub names : NamesLimit new.store.geometry.limit refusal
   pub counts : CountsFault fault old.damage new.damage old.shortages new.shortages
   pub same : new ≡ record old { store = new.store; damage = new.damage; shortages = new.shortages }
 

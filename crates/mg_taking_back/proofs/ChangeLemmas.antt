@@ -12,7 +12,7 @@ use Rattle.mg_space.specs.declared.links.FireLinks.{FireLinks}
 use Rattle.mg_txlist.specs.TxList.{said}
 use Rattle.mg_undo.specs.declared.changes.Change.{Change}
 use Rattle.mg_core.specs.declared.parts.Core.{Core}
-use Rattle.mg_core.specs.Refusing.{CountsFault, IsRefusal}
+use Rattle.mg_core.specs.Refusing.{CountsFault, IsRefusal, NamesLimit}
 use Rattle.mg_taking_back.specs.Changes.{FailsChange, FailsPages, TakesChange, change_not_taken, change_of_none, pages_not_taken, pages_of_none, table_back}
 use Rattle.mg_taking_back.specs.Keys.{FailsKey, TakesKey}
 
@@ -31,22 +31,24 @@ pages_come m old after t c table (Err fault) found given = pages_not_taken table
 -- a fault on the pages is told
 pub fault_told_of : {D : Type 0} (m : Meaning D) (old read new : Core D) (t : ℕ) (c : Change) (fault : SpaceFault)
     (refusal : Refusal) → FailsPages m old read t c fault → IsRefusal fault refusal
+    → NamesLimit new.store.geometry.limit refusal
     → CountsFault fault read.damage new.damage read.shortages new.shortages
     → new ≡ record read { damage = new.damage; shortages = new.shortages } → FailsChange m old new t c refusal
-fault_told_of {D} m old read new t c fault refusal (pages_of_none none is same) told counts counted =
+fault_told_of {D} m old read new t c fault refusal (pages_of_none none is same) told names counts counted =
     change_of_none none (record {
       is = subst (λ (f : SpaceFault). IsRefusal f refusal) is told;
       counts = subst (λ (k : Core D). CountsFault (faults.Damaged not_lawful) k.damage new.damage k.shortages new.shortages) same
           (subst (λ (f : SpaceFault). CountsFault f read.damage new.damage read.shortages new.shortages) is counts);
       same = counted ∙ ap (λ (k : Core D). record k { damage = new.damage; shortages = new.shortages }) same;
     })
-fault_told_of {D} m old read new t c fault refusal (pages_not_taken table found fails same) told counts counted =
+fault_told_of {D} m old read new t c fault refusal (pages_not_taken table found fails same) told names counts counted =
     change_not_taken table (record {
       found = found;
       fault = fault;
       fails = subst (λ (s : Pool D FireLinks). FailsKey m old.store s (said old.list) old.live t table c.key c.was fault)
           (sym stored) fails;
       is = told;
+      names = names;
       counts = subst (λ (k : Core D). CountsFault fault k.damage new.damage k.shortages new.shortages) same counts;
       same = whole;
     })

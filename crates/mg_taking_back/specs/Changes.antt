@@ -13,7 +13,7 @@ use Rattle.mg_value.specs.declared.value.Value.{Value}
 use Rattle.mg_works.specs.Works.{Working, written_to}
 use Rattle.mg_core.specs.declared.parts.Core.{Core}
 use Rattle.mg_core.specs.Putting.{CountsOne}
-use Rattle.mg_core.specs.Refusing.{CountsFault, IsRefusal}
+use Rattle.mg_core.specs.Refusing.{CountsFault, IsRefusal, NamesLimit}
 use Rattle.mg_taking_back.specs.Keys.{FailsKey, TakesKey}
 
 -- ---- the table
@@ -38,6 +38,7 @@ pub record FailsIn {D : Type 0} (m : Meaning D) (old new : Core D) (t : ℕ) (ta
   pub fault : SpaceFault
   pub fails : FailsKey m old.store new.store (said old.list) old.live t table c.key c.was fault
   pub is : IsRefusal fault refusal
+  pub names : NamesLimit new.store.geometry.limit refusal
   pub counts : CountsFault fault old.damage new.damage old.shortages new.shortages
   pub same : new ≡ record old { store = new.store; damage = new.damage; shortages = new.shortages }
 

@@ -11,3 +11,4 @@ pub mod LegalLaws
 pub mod Growing
 pub mod OwnEventLaws
 pub mod SessionLaws
+pub mod OutsideLaws

@@ -49,8 +49,10 @@ reply_to (answers.No refusal) = replies.No (Engine refusal)
 abbrev pub refused : Refusal → Comes
 refused refusal = Ends (replies.No (Engine refusal))
 
--- a refusal that no event need carry: want of pages or memory, a fault of the disk, or damage
+-- A refusal that no event need carry: want of memory, a fault of the disk, or damage. Want of pages is always carried by
+-- one, since what gives no event takes no page.
 abbrev pub is_outside : Refusal → Bool
+is_outside (refusals.DatabaseFull limit) = false
 is_outside refusal = is_outer (answers.No refusal)
 
 -- a refusal that is no waiting

@@ -4,7 +4,8 @@ use Rattle.mg_model.specs.Machine.{state_of}
 use Rattle.mg_transcript.specs.Courses.{Later, Committing}
 use Rattle.mg_transcript.specs.Steps.{asks, asks_not, refused}
 use Rattle.mg_courses.specs.CarryLaws.{carries_read}
-use Rattle.mg_courses.proofs.WorkLemmas.{still_active, refused_outside}
+use Rattle.mg_courses.proofs.WorkLemmas.{still_active}
+use Rattle.mg_transcript.specs.OutsideLaws.{refused_outside}
 use Rattle.mg_courses.proofs.starting.ask.Goals as goal
 
 pub returns-in-Ok-clause-starts : goal.returns-in-Ok-clause-starts

@@ -8,7 +8,8 @@ use Rattle.mg_model.specs.Machine.{state_of}
 use Rattle.mg_transcript.specs.Courses.{Later, Ends, Committing}
 use Rattle.mg_transcript.specs.Steps.{refused, reply_to, commits, writes_page, writes_no_page}
 use Rattle.mg_courses.specs.CarryLaws.{carries_lasting, carries_read}
-use Rattle.mg_courses.proofs.WorkLemmas.{still_active, ended_over, refused_outside}
+use Rattle.mg_courses.proofs.WorkLemmas.{still_active, ended_over}
+use Rattle.mg_transcript.specs.OutsideLaws.{refused_outside}
 use Rattle.mg_courses.proofs.work.step_commit.Goals as goal
 
 pub returns-in-Ok-clause-steps : goal.returns-in-Ok-clause-steps

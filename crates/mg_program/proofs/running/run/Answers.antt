@@ -1,3 +1,4 @@
+use Rattle.mg_runs.specs.Entry.{limit_on}
 use Rattle.std.proofs.Common.{◌≡◌, List, sym, subst}
 use Rattle.mg_base.specs.Streams.{SourceMeaning}
 use Rattle.mg_script.specs.declared.line.Line.{Line}
@@ -72,9 +73,9 @@ returns-in-Err-clause-script g c = unread_script g.D.Disk.meaning g.S.Source.mea
 pub returns-in-Err-clause-headline : goal.returns-in-Err-clause-headline
 returns-in-Err-clause-headline g c = λ size image o script entry left. unread_promise g.D.Disk.meaning
     g.S.Source.meaning g.K.Sink.meaning c.args.source.now c.read_lines.new.source c.args.disk c.args.sink.now
-    c.say_end.new.sink c.in-Err.end c.say_end.result c.in-Err.ensures c.say_end.ensures size o script
+    c.say_end.new.sink c.in-Err.end c.say_end.result c.in-Err.ensures c.say_end.ensures size (limit_on c.args.limit image) o script
 
 pub returns-in-Err-clause-other_files : goal.returns-in-Err-clause-other_files
 returns-in-Err-clause-other_files g c = λ size image other. unread_files g.D.Disk.meaning g.S.Source.meaning
     g.K.Sink.meaning c.args.source.now c.read_lines.new.source c.args.disk c.args.sink.now c.say_end.new.sink
-    c.in-Err.end c.say_end.result c.in-Err.ensures c.say_end.ensures size image
+    c.in-Err.end c.say_end.result c.in-Err.ensures c.say_end.ensures c.args.limit size image

@@ -3,4 +3,4 @@ use Rattle.mg_runs.proofs.laws.openings_are_judged.Goals as goal
 
 pub returns : goal.returns
 returns g c = openings_are_judged g.D.Disk.meaning g.K.Sink.meaning g.met.D.Disk.counts_now
-    c.new_databases_begin.ensures
+    c.new_databases_begin.ensures c.histories_go_on.ensures.begins c.catalogs_grow.ensures.own

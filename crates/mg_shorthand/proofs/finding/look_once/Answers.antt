@@ -2,7 +2,8 @@ use Rattle.std.proofs.Common.{None, Ok, Some, ap, ◌∙◌, subst}
 use Rattle.mg_calls.specs.declared.walking.Visit.{Visit}
 use Rattle.mg_calls.specs.declared.walking.Visit.TheVariants as visits
 use Rattle.mg_calls.specs.Walks.{GoesOn}
-use Rattle.mg_shorthand.proofs.GoingLemmas.{reads_at, refused_outside}
+use Rattle.mg_shorthand.proofs.GoingLemmas.{reads_at}
+use Rattle.mg_transcript.specs.OutsideLaws.{refused_outside}
 use Rattle.mg_shorthand.proofs.KeyLemmas.{none_seen, row_seen}
 use Rattle.mg_shorthand.proofs.finding.look_once.Goals as goal
 

@@ -1,6 +1,7 @@
 use Rattle.std.proofs.Common.{None, Some, false}
 use Rattle.mg_records.specs.Keeping.{refusal_in}
-use Rattle.mg_shorthand.proofs.GoingLemmas.{reads_one, reads_then, refused_outside, spares_ask, spares_then}
+use Rattle.mg_shorthand.proofs.GoingLemmas.{reads_one, reads_then, spares_ask, spares_then}
+use Rattle.mg_transcript.specs.OutsideLaws.{refused_outside}
 use Rattle.mg_shorthand.proofs.settling.ready_to_commit.Goals as goal
 
 pub returns-in-Ok-clause-outside : goal.returns-in-Ok-clause-outside

@@ -38,5 +38,6 @@ returns-in-Err-make_table-clause-puts g c = put_failed g.D.Disk.meaning c.args.c
     c.args.keys.now c.refuse-in-Err-make_table.new.self c.make_table.new.store c.keep_each.new.works c.unask.new.self
     c.retract_last.new.works (length c.args.keys.now) c.in-Err-make_table.fault c.refuse-in-Err-make_table.result
     c.in-Ok.ensures.keeps c.unask.ensures c.retract_last.ensures refl c.in-Err-make_table.ensures.makes
-    c.refuse-in-Err-make_table.ensures.refusal c.refuse-in-Err-make_table.ensures.counts
+    c.refuse-in-Err-make_table.ensures.refusal c.refuse-in-Err-make_table.ensures.names
+    c.refuse-in-Err-make_table.ensures.counts
     c.refuse-in-Err-make_table.ensures.same

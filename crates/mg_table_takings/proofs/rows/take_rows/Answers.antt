@@ -10,4 +10,5 @@ returns-in-Err-clause-takes g c = fault_told g.D.Disk.meaning c.args.core.now c.
     c.args.t.0 c.args.keys.now c.in-Err.fault c.refuse.result
     (subst (λ (l : TxList). FailsRowsOut g.D.Disk.meaning c.args.core.now.store c.take_rows_out.new.store (said l)
     c.args.core.now.live c.args.t.0 c.args.core.now.catalog c.args.keys.now c.in-Err.fault) c.new-states.ensures
-    c.in-Err.ensures.takes) c.refuse.ensures.refusal c.refuse.ensures.counts c.refuse.ensures.same
+    c.in-Err.ensures.takes) c.refuse.ensures.refusal c.refuse.ensures.names
+    c.refuse.ensures.counts c.refuse.ensures.same

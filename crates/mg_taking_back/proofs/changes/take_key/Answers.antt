@@ -10,4 +10,4 @@ returns-in-Err-clause-core g c = core_counted g.D.Disk.meaning c.take_pages.new.
 pub returns-in-Err-clause-takes : goal.returns-in-Err-clause-takes
 returns-in-Err-clause-takes g c = fault_told_of g.D.Disk.meaning c.args.core.now c.take_pages.new.core c.refuse.new.self
     c.args.t.0 (change_of c.args.number c.args.key c.args.was) c.in-Err.fault c.refuse.result c.in-Err.ensures.takes
-    c.refuse.ensures.refusal c.refuse.ensures.counts c.refuse.ensures.same
+    c.refuse.ensures.refusal c.refuse.ensures.names c.refuse.ensures.counts c.refuse.ensures.same

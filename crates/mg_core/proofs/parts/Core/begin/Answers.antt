@@ -28,5 +28,6 @@ returns-in-Err-draw-clause-begins g c = begins_refused g.D.Disk.meaning c.args.s
     c.in-Ok-enter.ensures.ok c.in-Err-draw.ensures.pool c.in-Err-draw.ensures.geometry c.in-Err-draw.ensures.list
     c.end.new.self c.retract.new.self c.refuse.new.self c.in-Err-draw.ensures.same c.end.ensures c.retract.ensures
     c.refuse.ensures.same c.in-Err-draw.fault c.refuse.result c.in-Ok.ensures.fault.0
-    (omega (arith, c.if-t-ge-GREATEST_NEXT.false)) c.refuse.ensures.refusal c.in-Err-draw.ensures.left
+    (omega (arith, c.if-t-ge-GREATEST_NEXT.false)) c.refuse.ensures.refusal c.refuse.ensures.names
+    c.in-Err-draw.ensures.left
     c.in-Err-draw.ensures.fault c.in-Err-draw.ensures.refused c.refuse.ensures.counts)

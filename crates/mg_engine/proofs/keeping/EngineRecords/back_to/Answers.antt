@@ -15,12 +15,14 @@ pub take_to_savepoint-requires-clause-counts : goal.take_to_savepoint-requires-c
 take_to_savepoint-requires-clause-counts g c = counted c.self.inside.core c.counts_fit.ensures.0 c.counts_fit.ensures.1
 
 pub returns-clause-goes : goal.returns-clause-goes
-returns-clause-goes g c = goes_room g.D.Disk.meaning places c.args.self.now c.take_to_savepoint.new.core c.args.t c.args.name.now c.take_to_savepoint.result
+returns-clause-goes g c = let it = back_as g.D.Disk.meaning places c.self.inside.core c.args.self.now c.take_to_savepoint.new.core c.self.view_is
+    c.args.t c.args.name.now c.take_to_savepoint.result c.take_to_savepoint.ensures.back in
+    goes_room g.D.Disk.meaning places c.args.self.now c.take_to_savepoint.new.core c.args.t c.args.name.now c.take_to_savepoint.result
+    it.leaves.keeps
     (room_back_as g.D.Disk.meaning places c.self.inside.core c.args.self.now
     c.take_to_savepoint.new.core c.self.view_is (refusal_in c.take_to_savepoint.result) c.args.t.0
     (SavepointNamed c.args.name.now) c.take_to_savepoint.ensures.room)
-    ((back_as g.D.Disk.meaning places c.self.inside.core c.args.self.now c.take_to_savepoint.new.core c.self.view_is
-    c.args.t c.args.name.now c.take_to_savepoint.result c.take_to_savepoint.ensures.back).goes)
+    it.goes
 
 pub returns-clause-leaves : goal.returns-clause-leaves
 returns-clause-leaves g c = leaves_with (means g.D.Disk.meaning places) c.args.self.now c.take_to_savepoint.new.core _ _ _

@@ -26,15 +26,17 @@ invariant_of-self g c = record {
 }
 
 pub returns-clause-adds : goal.returns-clause-adds
-returns-clause-adds g c = numbers_room g.D.Disk.meaning places c.args.self.now c.begin.new.self (Begin c.args.session c.args.mode) c.begin.result pages_of_begin
+returns-clause-adds g c = let it = begins_as g.D.Disk.meaning places c.self.inside.core c.args.self.now c.begin.new.self
+    c.self.view_is c.self.invariant c.begins_give.ensures c.args.session c.args.mode c.begin.result c.begin.ensures.core
+    c.tell_counts.ensures c.requires.session c.requires.free c.begin.ensures.begins in
+    numbers_room g.D.Disk.meaning places c.args.self.now c.begin.new.self (Begin c.args.session c.args.mode) c.begin.result pages_of_begin
     (λ o h. omega arith) (inl refl)
+    it.0.leaves.keeps
     (room_as g.D.Disk.meaning places c.self.inside.core c.args.self.now
     c.begin.new.self c.self.view_is (refusal_in c.begin.result) pages_of_begin
     (c.begins_take_few.ensures c.self.inside.core c.begin.new.self c.args.session c.args.mode c.begin.result
     c.self.invariant.lawful c.begin.ensures.begins))
-    ((begins_as g.D.Disk.meaning places c.self.inside.core c.args.self.now c.begin.new.self
-    c.self.view_is c.self.invariant c.begins_give.ensures c.args.session c.args.mode c.begin.result c.begin.ensures.core
-    c.tell_counts.ensures c.requires.session c.requires.free c.begin.ensures.begins).0.adds)
+    it.0.adds
 
 pub returns-clause-leaves : goal.returns-clause-leaves
 returns-clause-leaves g c = leaves_with (means g.D.Disk.meaning places) c.args.self.now c.begin.new.self _ _ _

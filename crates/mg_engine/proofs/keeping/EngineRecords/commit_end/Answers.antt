@@ -20,15 +20,17 @@ invariant_of-self g c = record {
 }
 
 pub returns-clause-adds : goal.returns-clause-adds
-returns-clause-adds g c = gives_room g.D.Disk.meaning places c.args.self.now c.commit_end.new.self (Commit c.args.t) c.commit_end.result 0 (λ o h. omega arith)
+returns-clause-adds g c = let it = commits_as g.D.Disk.meaning places c.self.inside.core c.args.self.now c.commit_end.new.self
+    c.self.view_is c.self.invariant c.commits_go.ensures c.args.t c.commit_end.result c.requires.written c.commit_end.ensures.commits in
+    gives_room g.D.Disk.meaning places c.args.self.now c.commit_end.new.self (Commit c.args.t) c.commit_end.result 0 (λ o h. omega arith)
     (inr (nothing_no_page (refusal_in c.commit_end.result) (c.commits_want_nothing.ensures.ends c.self.inside.core c.commit_end.new.self
     c.args.t.0 c.commit_end.result c.commit_end.ensures.commits)))
+    it.leaves.keeps
     (room_as g.D.Disk.meaning places c.self.inside.core c.args.self.now
     c.commit_end.new.self c.self.view_is (refusal_in c.commit_end.result) 0
     (c.commits_take_none.ensures.ends c.self.inside.core c.commit_end.new.self c.args.t.0 c.commit_end.result
     c.self.invariant.lawful c.commit_end.ensures.commits))
-    ((commits_as g.D.Disk.meaning places c.self.inside.core c.args.self.now c.commit_end.new.self
-    c.self.view_is c.self.invariant c.commits_go.ensures c.args.t c.commit_end.result c.requires.written c.commit_end.ensures.commits).adds)
+    it.adds
 
 pub returns-clause-leaves : goal.returns-clause-leaves
 returns-clause-leaves g c = leaves_with (means g.D.Disk.meaning places) c.args.self.now c.commit_end.new.self _ _ _

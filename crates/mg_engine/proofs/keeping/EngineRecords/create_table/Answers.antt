@@ -20,18 +20,20 @@ invariant_of-self g c = record {
 }
 
 pub returns-clause-adds : goal.returns-clause-adds
-returns-clause-adds g c = makes_table_room g.D.Disk.meaning places c.args.self.now c.create_table.new.core c.args.t c.args.name.now c.args.shape.now (refusal_in c.create_table.result)
+returns-clause-adds g c = let it = makes_as g.D.Disk.meaning places c.self.inside.core c.args.self.now c.create_table.new.core
+    c.self.view_is c.self.invariant c.counts_fit.ensures.0 c.counts_fit.ensures.1 c.args.t c.args.name.now
+    c.args.shape.now c.requires.other c.requires.shape c.requires.pages c.note_name.ensures
+    (subst AreNamed c.as_slice.ensures c.note_columns.ensures) c.tables_are_made.ensures.made c.tables_are_made.ensures.refused c.create_table.result
+    c.create_table.ensures.creates in
+    makes_table_room g.D.Disk.meaning places c.args.self.now c.create_table.new.core c.args.t c.args.name.now c.args.shape.now (refusal_in c.create_table.result)
     c.requires.shape.most
+    it.leaves.keeps
     (makes_room g.D.Disk.meaning places c.self.inside.core c.args.self.now
     c.create_table.new.core c.self.view_is c.self.invariant c.counts_fit.ensures.0 c.counts_fit.ensures.1 c.args.t
     c.args.name.now c.args.shape.now c.requires.other c.requires.shape c.requires.pages c.note_name.ensures
     (subst AreNamed c.as_slice.ensures c.note_columns.ensures) c.creations_take_few.ensures
     c.create_table.result c.create_table.ensures.creates)
-    ((makes_as g.D.Disk.meaning places c.self.inside.core c.args.self.now c.create_table.new.core
-    c.self.view_is c.self.invariant c.counts_fit.ensures.0 c.counts_fit.ensures.1 c.args.t c.args.name.now
-    c.args.shape.now c.requires.other c.requires.shape c.requires.pages c.note_name.ensures
-    (subst AreNamed c.as_slice.ensures c.note_columns.ensures) c.tables_are_made.ensures.made c.tables_are_made.ensures.refused c.create_table.result
-    c.create_table.ensures.creates).makes)
+    it.makes
 
 pub returns-clause-leaves : goal.returns-clause-leaves
 returns-clause-leaves g c = leaves_with (means g.D.Disk.meaning places) c.args.self.now c.create_table.new.core _ _ _

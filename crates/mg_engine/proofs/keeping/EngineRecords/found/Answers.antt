@@ -34,15 +34,17 @@ returns-clause-room g c = room_with (means g.D.Disk.meaning places) c.args.self.
     c.found.ensures.wait c.found.ensures.begins))
 
 pub returns-clause-adds : goal.returns-clause-adds
-returns-clause-adds g c = finds_room g.D.Disk.meaning places c.args.self.now c.found.new.self c.args.t c.args.name.now c.args.filter.now c.args.rows.now c.found.result
+returns-clause-adds g c = let it = found_as g.D.Disk.meaning places c.self.inside.core c.args.self.now c.found.new.self
+    c.self.view_is c.self.invariant c.points_go_on.ensures.found c.args.t c.args.name.now c.args.filter.now c.args.rows.now
+    c.found.result c.found.ensures.wait c.found.ensures.begins in
+    finds_room g.D.Disk.meaning places c.args.self.now c.found.new.self c.args.t c.args.name.now c.args.filter.now c.args.rows.now c.found.result
     (c.events_take_no_page.ensures.founds c.self.inside.core c.args.t.0 c.found.result c.found.ensures.begins)
+    it.leaves.keeps
     (room_as g.D.Disk.meaning places c.self.inside.core c.args.self.now
     c.found.new.self c.self.view_is (refusal_in c.found.result) 0
     (c.events_take_none.ensures.founds c.self.inside.core c.found.new.self c.args.t.0 c.found.result
     c.found.ensures.wait c.found.ensures.begins))
-    ((found_as g.D.Disk.meaning places c.self.inside.core c.args.self.now c.found.new.self
-    c.self.view_is c.self.invariant c.points_go_on.ensures.found c.args.t c.args.name.now c.args.filter.now c.args.rows.now
-    c.found.result c.found.ensures.wait c.found.ensures.begins).adds)
+    it.adds
 
 pub returns-clause-crash : goal.returns-clause-crash
 returns-clause-crash g c = quietly_with (means g.D.Disk.meaning places) c.args.self.now c.found.new.self

@@ -18,15 +18,17 @@ invariant_of-self g c = record {
 }
 
 pub returns-clause-adds : goal.returns-clause-adds
-returns-clause-adds g c = gives_room g.D.Disk.meaning places c.args.self.now c.look.new.self (Look c.args.t) c.look.result 0 (λ o h. omega arith)
+returns-clause-adds g c = let it = looks_as g.D.Disk.meaning places c.self.inside.core c.args.self.now c.look.new.self
+    c.self.view_is c.self.invariant c.looks_go_on.ensures c.args.t c.look.result c.look.ensures.looks in
+    gives_room g.D.Disk.meaning places c.args.self.now c.look.new.self (Look c.args.t) c.look.result 0 (λ o h. omega arith)
     (inr (c.events_take_no_page.ensures.looks c.self.inside.core c.look.new.self c.args.t.0 c.look.result
     c.look.ensures.looks))
+    it.leaves.keeps
     (room_as g.D.Disk.meaning places c.self.inside.core c.args.self.now
     c.look.new.self c.self.view_is (refusal_in c.look.result) 0
     (c.events_take_none.ensures.looks c.self.inside.core c.look.new.self c.args.t.0 c.look.result
     c.look.ensures.looks))
-    ((looks_as g.D.Disk.meaning places c.self.inside.core c.args.self.now c.look.new.self
-    c.self.view_is c.self.invariant c.looks_go_on.ensures c.args.t c.look.result c.look.ensures.looks).adds)
+    it.adds
 
 pub returns-clause-leaves : goal.returns-clause-leaves
 returns-clause-leaves g c = leaves_with (means g.D.Disk.meaning places) c.args.self.now c.look.new.self _ _ _

@@ -18,15 +18,17 @@ invariant_of-self g c = record {
 }
 
 pub returns-clause-adds : goal.returns-clause-adds
-returns-clause-adds g c = gives_room g.D.Disk.meaning places c.args.self.now c.mark.new.self (Mark c.args.t) c.mark.result 0 (λ o h. omega arith)
+returns-clause-adds g c = let it = marks_as g.D.Disk.meaning places c.self.inside.core c.args.self.now c.mark.new.self
+    c.self.view_is c.self.invariant c.points_go_on.ensures.marks c.args.t c.mark.result c.mark.ensures.sets in
+    gives_room g.D.Disk.meaning places c.args.self.now c.mark.new.self (Mark c.args.t) c.mark.result 0 (λ o h. omega arith)
     (inr (c.events_take_no_page.ensures.points c.self.inside.core c.mark.new.self c.args.t.0 None c.mark.result
     c.mark.ensures.sets))
+    it.leaves.keeps
     (room_as g.D.Disk.meaning places c.self.inside.core c.args.self.now
     c.mark.new.self c.self.view_is (refusal_in c.mark.result) 0
     (c.events_take_none.ensures.points c.self.inside.core c.mark.new.self c.args.t.0 None c.mark.result
     c.mark.ensures.sets))
-    ((marks_as g.D.Disk.meaning places c.self.inside.core c.args.self.now c.mark.new.self
-    c.self.view_is c.self.invariant c.points_go_on.ensures.marks c.args.t c.mark.result c.mark.ensures.sets).adds)
+    it.adds
 
 pub returns-clause-leaves : goal.returns-clause-leaves
 returns-clause-leaves g c = leaves_with (means g.D.Disk.meaning places) c.args.self.now c.mark.new.self _ _ _

@@ -19,15 +19,17 @@ invariant_of-self g c = record {
 }
 
 pub returns-clause-adds : goal.returns-clause-adds
-returns-clause-adds g c = gives_room g.D.Disk.meaning places c.args.self.now c.rollback.new.self (Rollback c.args.t) c.rollback.result 0 (λ o h. omega arith)
+returns-clause-adds g c = let it = rollbacks_as g.D.Disk.meaning places c.self.inside.core c.args.self.now c.rollback.new.self
+    c.self.view_is c.self.invariant c.rollbacks_go.ensures c.args.t c.rollback.result c.rollback.ensures.rolls in
+    gives_room g.D.Disk.meaning places c.args.self.now c.rollback.new.self (Rollback c.args.t) c.rollback.result 0 (λ o h. omega arith)
     (inr (nothing_no_page (refusal_in c.rollback.result) (c.commits_want_nothing.ensures.rollbacks c.self.inside.core c.rollback.new.self
     c.args.t.0 c.rollback.result c.rollback.ensures.rolls)))
+    it.leaves.keeps
     (room_as g.D.Disk.meaning places c.self.inside.core c.args.self.now
     c.rollback.new.self c.self.view_is (refusal_in c.rollback.result) 0
     (c.events_take_none.ensures.rollbacks c.self.inside.core c.rollback.new.self c.args.t.0 c.rollback.result
     c.rollback.ensures.rolls))
-    ((rollbacks_as g.D.Disk.meaning places c.self.inside.core c.args.self.now c.rollback.new.self
-    c.self.view_is c.self.invariant c.rollbacks_go.ensures c.args.t c.rollback.result c.rollback.ensures.rolls).adds)
+    it.adds
 
 pub returns-clause-leaves : goal.returns-clause-leaves
 returns-clause-leaves g c = leaves_with (means g.D.Disk.meaning places) c.args.self.now c.rollback.new.self _ _ _

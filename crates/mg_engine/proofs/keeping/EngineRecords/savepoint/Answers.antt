@@ -18,15 +18,17 @@ invariant_of-self g c = record {
 }
 
 pub returns-clause-adds : goal.returns-clause-adds
-returns-clause-adds g c = gives_room g.D.Disk.meaning places c.args.self.now c.savepoint.new.self (Savepoint c.args.t c.args.name.now) c.savepoint.result 0 (λ o h. omega arith)
+returns-clause-adds g c = let it = savepoints_as g.D.Disk.meaning places c.self.inside.core c.args.self.now c.savepoint.new.self
+    c.self.view_is c.self.invariant c.points_go_on.ensures.savepoints c.args.t c.args.name.now c.savepoint.result c.savepoint.ensures.sets in
+    gives_room g.D.Disk.meaning places c.args.self.now c.savepoint.new.self (Savepoint c.args.t c.args.name.now) c.savepoint.result 0 (λ o h. omega arith)
     (inr (c.events_take_no_page.ensures.points c.self.inside.core c.savepoint.new.self c.args.t.0
     (Some c.args.name.now) c.savepoint.result c.savepoint.ensures.sets))
+    it.leaves.keeps
     (room_as g.D.Disk.meaning places c.self.inside.core c.args.self.now
     c.savepoint.new.self c.self.view_is (refusal_in c.savepoint.result) 0
     (c.events_take_none.ensures.points c.self.inside.core c.savepoint.new.self c.args.t.0 (Some c.args.name.now)
     c.savepoint.result c.savepoint.ensures.sets))
-    ((savepoints_as g.D.Disk.meaning places c.self.inside.core c.args.self.now c.savepoint.new.self
-    c.self.view_is c.self.invariant c.points_go_on.ensures.savepoints c.args.t c.args.name.now c.savepoint.result c.savepoint.ensures.sets).adds)
+    it.adds
 
 pub returns-clause-leaves : goal.returns-clause-leaves
 returns-clause-leaves g c = leaves_with (means g.D.Disk.meaning places) c.args.self.now c.savepoint.new.self _ _ _

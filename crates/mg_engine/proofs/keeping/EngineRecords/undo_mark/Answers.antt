@@ -15,12 +15,14 @@ pub take_to_mark-requires-clause-counts : goal.take_to_mark-requires-clause-coun
 take_to_mark-requires-clause-counts g c = counted c.self.inside.core c.counts_fit.ensures.0 c.counts_fit.ensures.1
 
 pub returns-clause-undoes : goal.returns-clause-undoes
-returns-clause-undoes g c = undoes_room g.D.Disk.meaning places c.args.self.now c.take_to_mark.new.core c.args.t c.take_to_mark.result
+returns-clause-undoes g c = let it = undone_as g.D.Disk.meaning places c.self.inside.core c.args.self.now c.take_to_mark.new.core c.self.view_is
+    c.args.t c.take_to_mark.result c.take_to_mark.ensures.undone in
+    undoes_room g.D.Disk.meaning places c.args.self.now c.take_to_mark.new.core c.args.t c.take_to_mark.result
+    it.leaves.keeps
     (room_back_as g.D.Disk.meaning places c.self.inside.core c.args.self.now
     c.take_to_mark.new.core c.self.view_is (refusal_in c.take_to_mark.result) c.args.t.0 LastMark
     c.take_to_mark.ensures.room)
-    ((undone_as g.D.Disk.meaning places c.self.inside.core c.args.self.now c.take_to_mark.new.core c.self.view_is
-    c.args.t c.take_to_mark.result c.take_to_mark.ensures.undone).undoes)
+    it.undoes
 
 pub returns-clause-leaves : goal.returns-clause-leaves
 returns-clause-leaves g c = leaves_with (means g.D.Disk.meaning places) c.args.self.now c.take_to_mark.new.core _ _ _

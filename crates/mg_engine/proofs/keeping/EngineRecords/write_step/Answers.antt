@@ -33,17 +33,19 @@ invariant_of-self g c = record {
 }
 
 pub returns-clause-adds : goal.returns-clause-adds
-returns-clause-adds g c = gives_room g.D.Disk.meaning places c.args.self.now c.write_noted.new.core (event_of c.args.t c.args.table.now.name c.args.write.now) c.write_noted.result pages_of_row
+returns-clause-adds g c = let it = writes_as g.D.Disk.meaning places c.self.inside.core c.args.self.now c.write_noted.new.core
+    c.self.view_is c.self.invariant c.counts_fit.ensures.0 c.counts_fit.ensures.1 c.args.t c.args.table.now
+    c.args.write.now c.requires.table c.requires.fits c.note_write.ensures c.noted_writes_give.ensures.writes
+    c.noted_writes_give.ensures.fails c.write_noted.result c.write_noted.ensures.writes in
+    gives_room g.D.Disk.meaning places c.args.self.now c.write_noted.new.core (event_of c.args.t c.args.table.now.name c.args.write.now) c.write_noted.result pages_of_row
     (λ o h. write_least o h c.args.t c.args.table.now.name c.args.write.now (fine_or c.write_noted.result))
     (inl (write_takes c.args.t c.args.table.now.name c.args.write.now))
+    it.leaves.keeps
     (room_as g.D.Disk.meaning places c.self.inside.core c.args.self.now
     c.write_noted.new.core c.self.view_is (refusal_in c.write_noted.result) pages_of_row
     (c.writes_take_few.ensures c.self.inside.core c.write_noted.new.core c.args.t c.args.table.now c.args.write.now
     c.write_noted.result c.self.invariant.lawful c.write_noted.ensures.writes))
-    ((writes_as g.D.Disk.meaning places c.self.inside.core c.args.self.now c.write_noted.new.core
-    c.self.view_is c.self.invariant c.counts_fit.ensures.0 c.counts_fit.ensures.1 c.args.t c.args.table.now
-    c.args.write.now c.requires.table c.requires.fits c.note_write.ensures c.noted_writes_give.ensures.writes
-    c.noted_writes_give.ensures.fails c.write_noted.result c.write_noted.ensures.writes).adds)
+    it.adds
 
 pub returns-clause-leaves : goal.returns-clause-leaves
 returns-clause-leaves g c = leaves_with (means g.D.Disk.meaning places) c.args.self.now c.write_noted.new.core _ _ _
