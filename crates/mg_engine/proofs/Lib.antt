@@ -8,3 +8,5 @@ mod WriteLemmas
 mod BackLemmas
 mod ToldLemmas
 mod RoomLemmas
+mod KeyReadLemmas
+mod KeyedLemmas

@@ -1,3 +1,4 @@
 pub mod Engines
+pub mod Keyed
 pub mod KeeperLaws
 pub mod Places

@@ -13,6 +13,7 @@
 
 mod engine;
 mod keeping;
+mod keyed;
 mod making;
 mod opening;
 mod page_writes;

@@ -43,7 +43,8 @@ use Rattle.mg_plain.specs.Keeping.{Keeping, LieWithin, StandsFor, base_in, kept_
 use Rattle.mg_plain.specs.Kept.{kept}
 use Rattle.mg_plain.specs.Obeying.{is_inner, as_number, told_by, event_back, ExpectsActive, IsAnswer, IsDone, Obeys, ViewsStay}
 use Rattle.mg_plain.specs.Records.{FoundAt, GoesOn, InsertsAll, behind, means, rows_seen, shape_kept, with_shape}
-use Rattle.mg_plain.specs.RecordsLaws.{same_shape}
+use Rattle.mg_tending.specs.Keyed.{IsSeenAt}
+use Rattle.mg_plain.specs.RecordsLaws.{same_shape, same_view}
 use Rattle.mg_plain.proofs.StandsLemmas.{told_same}
 use Rattle.mg_plain.proofs.ViewLemmas.{noted_view, view_kept}
 use Rattle.mg_plain.proofs.ObeyLemmas.{inactive, obeys_by, refused_obeys, views_refused}
@@ -555,3 +556,9 @@ pub makes_table : (old new : Plain) (t : TxNo) (name : List ℕ) (shape : Shape)
     → InsertsAll old new t rows result → MakesTable means old new t name shape (refusal_in result)
 makes_table old new t name shape rows result is all = λ o h s.
     subst (λ (xs : List Cells). InsertsEach means new o t xs h (refusal_in result)) is (all.inserts o h s)
+
+-- a row that is kept at a key is the one that the history tells there
+pub row_seen : (p : Plain) (t : ℕ) (name : List ℕ) (key : Value) (row : Option Cells)
+    → row ≡ row_at ((told_in (kept p)).view t) name key → IsSeenAt means p t name key row
+row_seen p t name key row is = λ o h s active.
+    is ∙ ap (λ (cs : List Change). row_at cs name key) (same_view o h (kept p) t s)

@@ -7,8 +7,8 @@
 //!
 //! Invariant: what it keeps stands for the history of the events that it answered (`StandsFor` in
 //! `specs/Keeping`): read from what it holds, since no history is stored.
-//! It is a keeper of records too (`Records`, `PageWrites`): it has no pages, so no page size refuses a table, and a
-//! place is the number of a row among those that the transaction sees.
+//! It is a keeper of records too (`Records`, `PageWrites`, `Keyed`): it has no pages, so no page size refuses a table, and
+//! a place is the number of a row among those that the transaction sees.
 //!
 //! Below: `mg_model`, which says what the answers are, and `mg_records`. Above: tests of every faster
 //! machine, and statements without a disk.

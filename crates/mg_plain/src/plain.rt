@@ -17,6 +17,7 @@ use mg_model::{Answer, Change, Event, Opening, PlacedRow, Step};
 use std::alloc::Global;
 
 mod judging;
+mod keyed;
 mod obeying;
 mod records;
 pub mod seeing;

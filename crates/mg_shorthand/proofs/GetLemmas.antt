@@ -1,5 +1,5 @@
 -- The reading of a get: its steps, and what it has come to.
-use Rattle.std.proofs.Common.{◌≡◌, ◌⊎◌, inl, inr, ℕ, ℤ, not, Bool, true, false, ◌∷◌, Option, Some, None, refl, sym, ap, ◌∙◌, subst}
+use Rattle.std.proofs.Common.{◌≡◌, ◌⊎◌, inl, inr, ℕ, ℤ, not, Bool, true, false, Option, Some, None, refl, sym, ap, ◌∙◌, subst}
 use Rattle.std.specs.Prelude.{List}
 use Rattle.mg_base.specs.declared.numbers.TxNo.{TxNo}
 use Rattle.mg_base.specs.declared.transaction.TxState.TheVariants.{Active}
@@ -16,7 +16,6 @@ use Rattle.mg_records.specs.Crashing.{HoldsOn}
 use Rattle.mg_records.specs.Meaning.{Means}
 use Rattle.mg_records.specs.Sessions.{SessionsStay}
 use Rattle.mg_rows.specs.declared.statement_fault.StatementFault.{StatementFault}
-use Rattle.mg_rows.specs.declared.statement_fault.StatementFault.TheVariants.{Engine}
 use Rattle.mg_script.specs.declared.reply.Reply.{Reply}
 use Rattle.mg_script.specs.declared.reply.Reply.TheVariants as replies
 use Rattle.mg_calls.specs.Frames.{Frames}
@@ -26,7 +25,6 @@ use Rattle.mg_transcript.specs.Shorthand.{Gets, GivesUp, IsGot, Settles, fails_t
 use Rattle.mg_transcript.specs.Statements.{fault_of, fault_seen, selects, table_of}
 use Rattle.mg_transcript.specs.Steps.{Steps, Follows, answers_so, writes_so, has_fault, falls_short, visits, stops, faults, finds, finds_not, inserts, inserts_not, makes, makes_not, saves, goes_back, goes_nowhere, goes_not, writes_on, makes_on, writes_page, writes_no_page, commits, Runs, waits_now, ends_now, one_step}
 use Rattle.mg_exec_courses.specs.Courses.{IsOutsideFault}
-use Rattle.mg_courses.specs.declared.statements.Ending.{Ending}
 use Rattle.mg_courses.specs.declared.statements.Stepped.{Stepped}
 use Rattle.mg_courses.specs.declared.statements.Stepped.TheVariants.{More, Waits, Ended}
 use Rattle.mg_courses.specs.declared.work.Work.{Work}

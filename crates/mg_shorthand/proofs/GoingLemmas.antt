@@ -1,5 +1,5 @@
 -- One call, several calls, and none, for an active transaction.
-use Rattle.std.proofs.Common.{◌≡◌, ◌≤◌, ℕ, ◌==◌, ◌+◌, ◌<◌, not, Bool, true, false, ◌∷◌, Option, Some, None, Result, Ok, Err, inl, refl, ap, arith, subst}
+use Rattle.std.proofs.Common.{◌≡◌, ℕ, ◌==◌, ◌+◌, ◌<◌, not, Bool, true, false, ◌∷◌, Option, Some, None, Ok, inl, refl, ap, arith}
 use Rattle.std.specs.Prelude.{if◌then◌else◌}
 use Rattle.std.proofs.lemmas.Bool.{eq-eqb}
 use Rattle.mg_base.specs.declared.numbers.TxNo.{TxNo}
@@ -20,14 +20,13 @@ use Rattle.mg_records.specs.Crashing.{CrashesHold, HoldsOn, LeavesQuietly, Leave
 use Rattle.mg_records.specs.Keeping.{FaultsAreTold, Keeps, Leaves, MeetsNoDamage, Reads}
 use Rattle.mg_records.specs.Meaning.{Means}
 use Rattle.mg_records.specs.Sessions.{SessionsStay}
-use Rattle.mg_calls.specs.Frames.{Blames, Frames}
-use Rattle.mg_calls.specs.Quiet.{IsQuietAt}
+use Rattle.mg_calls.specs.Frames.{Blames}
 use Rattle.mg_calls.specs.FrameLaws.{frames_after, frames_changes, frames_first, frames_then, frames_reads, frames_reads_nothing, frames_writes}
 use Rattle.mg_rows.specs.declared.statement_fault.StatementFault.{StatementFault}
 use Rattle.mg_transcript.specs.Growing.{GrowsBy, as_it_was, by_one, grown_then}
 use Rattle.mg_transcript.specs.Shorthand.{stops_by}
 use Rattle.mg_courses.specs.Carrying.{Carries}
-use Rattle.mg_courses.specs.CarryLaws.{carries_none, carries_event, carries_lasting, carries_read, carries_read_at, carries_then}
+use Rattle.mg_courses.specs.CarryLaws.{carries_none, carries_event, carries_lasting, carries_read, carries_then}
 use Rattle.mg_courses.specs.Running.{refusal_of}
 use Rattle.mg_courses.specs.StopLaws.{goes_on_by}
 use Rattle.mg_shorthand.specs.Going.{Went, ReadsOn, Spares, over_if}
@@ -103,15 +102,6 @@ pub reads_one : {R P : Type 0} (m : Means R P) → HoldsOn m → (old new : R) (
 reads_one m lasts old new refusal walks reads undamaged crash o h stands = record {
   stands = reads.stays o h stands;
   carries = carries_read m lasts old new o h refusal walks stands reads undamaged crash;
-}
-
--- a step of a walk
-pub reads_at : {R P : Type 0} (m : Means R P) → HoldsOn m → (old new : R) (refusal : Option Refusal)
-    (walks : Option ℕ) (o : Opening) (h : Entries) → Reads m old new refusal walks → m.stands old o h
-    → IsQuietAt m old new o h → ReadsOn m old new o h
-reads_at m lasts old new refusal walks o h reads stands quiet = record {
-  stands = reads.stays o h stands;
-  carries = carries_read_at m lasts old new o h refusal walks reads quiet;
 }
 
 pub reads_then : {R P : Type 0} (m : Means R P) → HoldsOn m → (old mid new : R) (o : Opening) (h : Entries)

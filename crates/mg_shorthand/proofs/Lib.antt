@@ -1,5 +1,4 @@
 mod GoingLemmas
-mod KeyLemmas
 mod NameLemmas
 mod PutLemmas
 mod TreeLemmas

@@ -1,5 +1,5 @@
 -- What a put writes.
-use Rattle.std.proofs.Common.{◌≡◌, ◌≢◌, ◌==◌, ◌&&◌, ℕ, ℤ, Bool, true, false, List, [], ◌∷◌, Option, Some, None, refl, sym, ap, ◌∙◌, subst}
+use Rattle.std.proofs.Common.{◌≡◌, ◌==◌, ◌&&◌, ℕ, ℤ, Bool, true, false, List, [], ◌∷◌, Option, Some, None, refl, sym, ap, subst}
 use Rattle.std.specs.Prelude.{is_some}
 use Rattle.std.proofs.lemmas.Bool.{eqb-true}
 use Rattle.mg_base.specs.declared.numbers.TxNo.{TxNo}
@@ -7,10 +7,8 @@ use Rattle.mg_value.specs.declared.shape.Column.{Column}
 use Rattle.mg_value.specs.declared.shape.Kind.{Kind}
 use Rattle.mg_value.specs.declared.shape.Kind.TheVariants as kinds
 use Rattle.mg_value.specs.declared.shape.Shape.{Shape}
-use Rattle.mg_value.specs.declared.value.Value.{Value}
 use Rattle.mg_value.specs.declared.value.Value.TheVariants as values
 use Rattle.mg_value.specs.Rows.{FitsColumn, FitsKind, RowFits}
-use Rattle.mg_model.specs.declared.event.Event.{Event}
 use Rattle.mg_model.specs.Changes.{Cells, row_at}
 use Rattle.mg_model.specs.Catalog.{key_of}
 use Rattle.mg_model.specs.History.{Entries, entry, transaction_of}
@@ -25,14 +23,14 @@ use Rattle.mg_model.specs.declared.refusal.Refusal.{Refusal}
 use Rattle.mg_model.specs.declared.refusal.Refusal.TheVariants.{NoTable}
 use Rattle.mg_base.specs.declared.transaction.TxState.TheVariants.{Active}
 use Rattle.mg_records.specs.Meaning.{Means}
-use Rattle.mg_records.specs.Reading.{TellsTable, shape_seen}
+use Rattle.mg_records.specs.Reading.{TellsTable}
 use Rattle.mg_records.specs.Writing.{FitsShape, event_of}
 use Rattle.mg_rows.specs.declared.statement_fault.StatementFault.TheVariants.{Engine}
 use Rattle.mg_script.specs.declared.reply.Reply.{Reply}
 use Rattle.mg_transcript.specs.Shorthand.{GivesUp, Puts, sees_none, finds_not, are_two_numbers, is_number, is_of_numbers, pair_of, put_event}
 use Rattle.mg_shorthand.specs.Keys.{sees_key, write_of}
 use Rattle.mg_transcript.specs.OutsideLaws.{refused_outside}
-use Rattle.std.proofs.Common.{Result, Err}
+use Rattle.std.proofs.Common.{Err}
 
 both : (a b : Bool) → (a && b) ≡ true → (a ≡ true) × (b ≡ true)
 both true true is = (refl, refl)

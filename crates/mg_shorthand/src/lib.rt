@@ -1,20 +1,20 @@
 //! The lines `@put` and `@get`, over any keeper of records: what their transaction does once it has begun.
 //!
-//! Owns: `Serves`, a keeper that puts rows, and that each keeper whose pages can be written one by one is one; `get`.
+//! Owns: `Serves`, a keeper that puts rows, and that each keeper is one whose pages can be written one by one and that
+//! finds a row by its key; `get`.
 //! Each ends its transaction: it commits where all was done, and else it is rolled back, but
 //! behind a refusal by which the run stops. What comes of it is `Puts` and `Gets` of `mg_transcript`, for each history
 //! that the keeper stood for.
 //!
 //! The definitions stand in `specs/`: `Going` (what calls for an active transaction come to), `Keys` (the row with a
-//! key, met by a walk).
+//! key, and the write of a put).
 //!
 //! Invariant: none, it keeps no state.
-//! Below: `mg_calls`, whose walk visits rows, and `mg_courses`, by which the reading of a `@get` runs. Above:
-//! `mg_sessions`, which begins the transaction.
+//! Below: `mg_tending`, by which a `@put` finds the row of its key, and `mg_courses`, by which the reading of a `@get`
+//! runs. Above: `mg_sessions`, which begins the transaction.
 //! Not here: which session the transaction is of, and what is printed.
 #![tactic(auto)]
 
-mod finding;
 mod getting;
 mod giving_up;
 mod putting;

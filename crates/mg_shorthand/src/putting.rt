@@ -1,36 +1,35 @@
 //! The line `@put`.
 
-ghost use Rattle.std.specs.Prelude.{◌≡◌, ℤ, IfOk, None, Some, true};
+ghost use Rattle.std.specs.Prelude.{◌≡◌, ℤ, IfOk, None, Some, false, true};
+ghost use Rattle.mg_base.specs.declared.transaction.TxState.TheVariants.{Active};
 ghost use Rattle.mg_value.specs.declared.value.Value.TheVariants as values;
 ghost use Rattle.mg_model.specs.declared.opening.Opening.{Opening};
 ghost use Rattle.mg_model.specs.History.{Entries};
 ghost use Rattle.mg_model.specs.Changes.{row_at};
-ghost use Rattle.mg_model.specs.Machine.{view};
+ghost use Rattle.mg_model.specs.Machine.{state_of, view};
 ghost use Rattle.mg_model.specs.NewDatabase.{kv_name};
+ghost use Rattle.mg_records.specs.Keeping.{refusal_in};
 ghost use Rattle.mg_records.specs.Reading.{shape_seen};
 ghost use Rattle.mg_records.specs.Writing.{FitsShape, event_of};
 ghost use Rattle.mg_transcript.specs.Shorthand.{Puts, are_two_numbers, is_number as is_number_of, is_of_numbers as is_of_numbers_of, pair_of, put_event};
 ghost use Rattle.mg_courses.specs.Running.{refusal_answered};
-ghost use Rattle.mg_shorthand.specs.Going.{Goes, GoesAt, Spares, SparesOn};
+ghost use Rattle.mg_shorthand.specs.Going.{Goes, GoesAt, IsFromOutside, ReadsOn, Spares, SparesOn};
 ghost use Rattle.mg_shorthand.specs.Keys.{sees_key, write_of};
 
-use crate::finding::find_key;
 use crate::giving_up::give_up_for;
 use crate::settling::settle;
 use mg_base::{Memory, TxNo};
-use mg_calls::start_walk;
 use mg_courses::Ending;
 use mg_model::{Refusal, Table};
 use mg_records::{Records, Write};
 use mg_script::Reply;
+use mg_tending::Keyed;
 use mg_value::{Column, Key, Kind, Name, Row, Shape, Value};
 use std::alloc::Global;
 
 /// Does what a put is for, in its transaction, and ends that: the table KV gets a row with the key and the value, or
 /// the row with the key becomes this one.
-pub(crate) fn put<R: Records>(r: &mut R, alloc: Global, t: TxNo, key: i64, value: i64) -> Ending
-where
-    R::Place: Drop,
+pub(crate) fn put<R: Keyed>(r: &mut R, alloc: Global, t: TxNo, key: i64, value: i64) -> Ending
     ensures goes { Goes R.meaning r.old r.new t result.over (λ o h after. Puts o key value h t after result.reply) }
     ensures spares { Spares R.meaning r.old r.new t (refusal_answered result.reply) result.over }
 {
@@ -48,16 +47,7 @@ pub(crate) fn kv() -> Name
 }
 
 // The table was given.
-fn put_in<R: Records>(
-    r: &mut R,
-    alloc: Global,
-    t: TxNo,
-    table: Table,
-    key: i64,
-    value: i64,
-) -> Ending
-where
-    R::Place: Drop,
+fn put_in<R: Keyed>(r: &mut R, alloc: Global, t: TxNo, table: Table, key: i64, value: i64) -> Ending
     requires named { table.name ≡ kv_name }
     requires given { R.meaning.table r.old t.0 table.name ≡ Some table }
     ensures goes { (o : Opening) (h : Entries) → shape_seen o h t.0 kv_name ≡ Some table.shape
@@ -67,10 +57,27 @@ where
     if !is_of_numbers(&table.shape) {
         return give_up_for(r, t, Refusal::NoTable);
     }
-    let mut walk = start_walk(r, table);
-    match find_key(r, t, &mut walk, &Value::Int(key)) {
-        Ok(sees) => write(r, alloc, t, &walk.table, sees, key, value),
+    match find_key(r, t, &table, &key_of(key)) {
+        Ok(sees) => write(r, alloc, t, &table, sees, key, value),
         Err(refusal) => give_up_for(r, t, refusal),
+    }
+}
+
+// Whether the transaction sees a row with a key.
+fn find_key<R: Keyed>(r: &mut R, t: TxNo, table: &Table, key: &Key) -> Result<bool, Refusal>
+    requires given { R.meaning.table r.old t.0 table.now.name ≡ Some table.now }
+    ensures given { R.meaning.table r.new t.0 table.now.name ≡ Some table.now }
+    ensures sees { (o : Opening) (h : Entries) → R.meaning.stands r.old o h → state_of o h t.0 ≡ Active
+        → IfOk result (λ sees. sees ≡ sees_key o h t.0 table.now.name key.now) }
+    ensures outside { (o : Opening) (h : Entries) → R.meaning.stands r.old o h → state_of o h t.0 ≡ Active
+        → IsFromOutside result }
+    ensures reads { (o : Opening) (h : Entries) → R.meaning.stands r.old o h
+        → ReadsOn R.meaning r.old r.new o h }
+    ensures spares { Spares R.meaning r.old r.new t (refusal_in result) false }
+{
+    match r.row_with_key(t, table, key) {
+        Ok(row) => Ok(row.is_some()),
+        Err(refusal) => Err(refusal),
     }
 }
 
@@ -84,8 +91,6 @@ fn write<R: Records>(
     key: i64,
     value: i64,
 ) -> Ending
-where
-    R::Place: Drop,
     requires named { table.now.name ≡ kv_name }
     requires given { R.meaning.table r.old t.0 table.now.name ≡ Some table.now }
     requires numbers { is_of_numbers_of (Some table.now.shape) ≡ true }

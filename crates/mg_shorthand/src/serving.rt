@@ -7,11 +7,11 @@ ghost use Rattle.mg_shorthand.specs.Going.{Goes, Spares};
 use crate::putting::put;
 use mg_base::TxNo;
 use mg_courses::{Ending, Tends};
-use mg_tending::PageWrites;
+use mg_tending::{Keyed, PageWrites};
 use std::alloc::Global;
 
 /// A keeper of records on which statements run, whose changed pages can be written one by one, and which puts rows.
-/// Each keeper whose pages can be written so is one.
+/// Each keeper whose pages can be written so, and that finds a row by its key, is one.
 pub trait Serves: Tends {
     /// Does what a put is for, in its transaction, and ends that: the table KV gets a row with the key and the value,
     /// or the row with the key becomes this one.
@@ -21,7 +21,7 @@ pub trait Serves: Tends {
         ensures spares { Spares Self.meaning self.old self.new t (refusal_answered result.reply) result.over };
 }
 
-impl<R: PageWrites> Serves for R
+impl<R: PageWrites + Keyed> Serves for R
 where
     R::Place: Drop,
 {

@@ -1,4 +1,4 @@
-use Rattle.std.proofs.Common.{Bool, Option, Some, None, false, sym, ◌∙◌, subst}
+use Rattle.std.proofs.Common.{Bool, Option, None, sym, ◌∙◌, subst}
 use Rattle.mg_model.specs.declared.refusal.Refusal.{Refusal}
 use Rattle.mg_transcript.specs.Shorthand.{GivesUp, IsGot, Settles}
 use Rattle.mg_courses.specs.Running.{refusal_of}

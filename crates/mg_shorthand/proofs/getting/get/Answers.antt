@@ -1,4 +1,4 @@
-use Rattle.std.proofs.Common.{None, Some, false, refl}
+use Rattle.std.proofs.Common.{Some, false, refl}
 use Rattle.mg_model.specs.declared.refusal.Refusal.TheVariants.{Memory}
 use Rattle.mg_rows.specs.declared.statement_fault.StatementFault.TheVariants.{Engine}
 use Rattle.mg_transcript.specs.Shorthand.{Gets, GivesUp, tests_not}

@@ -1,4 +1,4 @@
-use Rattle.std.proofs.Common.{◌⊎◌, inl, inr, Bool, true, false, None, Some, Ok, Err, refl, sym, ap, ◌∙◌, subst}
+use Rattle.std.proofs.Common.{Bool, true, None, Ok, Err, refl, ap, ◌∙◌, subst}
 use Rattle.mg_statements.specs.Plain.{Plain}
 use Rattle.mg_records.specs.Reading.{shape_seen}
 use Rattle.mg_calls.specs.Quiet.{as_it_was}

@@ -1,7 +1,4 @@
-use Rattle.std.proofs.Common.{[], ◌∷◌, ◌++◌, List, ap, ◌∙◌}
 use Rattle.std.specs.Prelude.{codes}
-use Rattle.mg_expr.specs.declared.expr.Expr.{Expr}
-use Rattle.mg_expr.specs.declared.expr.Expr.TheVariants as variants
 use Rattle.mg_shorthand.proofs.NameLemmas.{v_is_name}
 use Rattle.mg_shorthand.proofs.TreeLemmas.{alone}
 use Rattle.mg_shorthand.proofs.getting.value.Goals as goal

@@ -1,4 +1,4 @@
-use Rattle.std.proofs.Common.{◌∷◌, Some, None, true, false, refl, sym, ◌∙◌, ap}
+use Rattle.std.proofs.Common.{Some, None, true, false, refl, sym, ◌∙◌, ap}
 use Rattle.mg_base.specs.declared.transaction.TxState.TheVariants.{Dead}
 use Rattle.mg_model.specs.declared.answer.Answer.TheVariants as answers
 use Rattle.mg_model.specs.declared.event.Event.TheVariants as events

@@ -1,4 +1,4 @@
-use Rattle.std.proofs.Common.{◌≡◌, ℕ, ℤ, List, None, Some, Err, ap, sym, ◌∙◌, subst, w64}
+use Rattle.std.proofs.Common.{ℕ, List, None, Some, Err, ap, sym, ◌∙◌, subst, w64}
 use Rattle.std.proofs.lemmas.Int.{to_z-of_z}
 use Rattle.mg_model.specs.NewDatabase.{kv_name}
 use Rattle.mg_records.specs.Reading.{TellsTable, shape_seen}

@@ -1,4 +1,4 @@
-use Rattle.std.proofs.Common.{◌≡◌, None, Some, false, ap, ◌∙◌, refl, w64}
+use Rattle.std.proofs.Common.{◌≡◌, Some, false, ap, ◌∙◌, refl, w64}
 use Rattle.std.proofs.lemmas.Int.{to_z-of_z}
 use Rattle.mg_shorthand.specs.Keys.{write_of}
 use Rattle.mg_model.specs.declared.refusal.Refusal.TheVariants.{Memory}

@@ -1,5 +1,5 @@
-use Rattle.std.proofs.Common.{None, Some, false, subst, ◌<◌, Bool}
-use Rattle.mg_shorthand.proofs.GoingLemmas.{noted, noted_asked, noted_left, noted_written, one_less, reads_none, reads_one, reads_then, spares_none, spares_read, spares_then}
+use Rattle.std.proofs.Common.{None, Some, false}
+use Rattle.mg_shorthand.proofs.GoingLemmas.{noted, noted_asked, noted_written, one_less, reads_none, reads_one, reads_then, spares_none, spares_read, spares_then}
 use Rattle.mg_transcript.specs.OutsideLaws.{refused_outside}
 use Rattle.mg_shorthand.proofs.settling.write_noted.Goals as goal
 

@@ -1,0 +1,257 @@
+-- A row that was asked for by its key is the one that the history tells, and nothing else comes of the call.
+use Rattle.std.proofs.Common.{◌≡◌, inl, inr, ◌<◌, ◌^◌, cond, ℕ, Bool, true, false, List, Option, None, Some, Result, Ok, Err, refl, sym, ap, ◌∙◌, subst, arith}
+use Rattle.std.specs.Prelude.{IfOk}
+use Rattle.mg_base.specs.Disk.{Meaning}
+use Rattle.mg_base.specs.declared.numbers.RecId.{RecId}
+use Rattle.mg_base.specs.declared.numbers.TxNo.{TxNo}
+use Rattle.mg_base.specs.declared.transaction.TxState.TheVariants.{Active}
+use Rattle.mg_core.specs.declared.parts.Core.{Core}
+use Rattle.mg_core.specs.declared.scanning.Place.{Place}
+use Rattle.mg_core.specs.Cores.{Continues, RefusesCall}
+use Rattle.mg_core.specs.Reading.{FailsReading}
+use Rattle.mg_core.specs.Writing.{WhyOfKey, row_unread}
+use Rattle.mg_engine.specs.Keyed.{AnswersKey, FailsKey, GivesRow, KeysGoOn, ReadsKey}
+use Rattle.mg_engine.specs.Places.{places as core_places}
+use Rattle.mg_engine_changes.specs.FaultCoreLaws.{not_read, only_read}
+use Rattle.mg_engine_meaning.specs.Counts.{HasCounts}
+use Rattle.mg_engine_meaning.specs.FaultLaws.{IsOuter, fault_outer}
+use Rattle.mg_engine_meaning.specs.FrameLaws.{sessions_of, works_same}
+use Rattle.mg_engine_meaning.specs.LawfulLaws.{memory_of, tables_are_seen}
+use Rattle.mg_engine_meaning.specs.Meaning.{Places, means}
+use Rattle.mg_engine_meaning.specs.Standings.{ShowsIt, StandsFor, standing_of}
+use Rattle.mg_engine_meaning.specs.StepLaws.{refused_none, shows_of}
+use Rattle.mg_engine_meaning.specs.Steps.{AddsNone, ReadsGoOn}
+use Rattle.mg_engine_steps.specs.AnswersLaws.{NothingAtKeys, RowsAtKeys, SpeakersAreTold, TellsSpeaker}
+use Rattle.mg_engine_steps.specs.Known.{IsShown, KnowsPages, seen_is_shown}
+use Rattle.mg_image.specs.Form.{Row}
+use Rattle.mg_model.specs.declared.opening.Opening.{Opening}
+use Rattle.mg_model.specs.declared.refusal.Refusal.{Refusal}
+use Rattle.mg_model.specs.declared.table.Table.{Table}
+use Rattle.mg_model.specs.Answers.{catalog_of, told}
+use Rattle.mg_model.specs.Catalog.{catalog_name, shape_said, table_key}
+use Rattle.mg_model.specs.Changes.{Cells, row_at, same_name}
+use Rattle.mg_model.specs.History.{Entries}
+use Rattle.mg_model.specs.Laws.{OpeningsBegin}
+use Rattle.mg_model.specs.Machine.{state_of, view}
+use Rattle.mg_no_damage.specs.CoreReads.{RowsAreFound, ShowsTable}
+use Rattle.mg_no_damage.specs.CoreSpendingLaws.{refused_by, unread_other}
+use Rattle.mg_no_damage.specs.FewPagesLaws.{room_alike, room_kept}
+use Rattle.mg_no_damage.specs.ShownLaws.{shown_table}
+use Rattle.mg_no_damage.specs.Sound.{SoundRecordsAreLawful, SoundTablesStand}
+use Rattle.mg_no_damage.specs.StageLaws.{unread_stands}
+use Rattle.mg_pool.specs.Dirty.{DirtyPages}
+use Rattle.mg_pool.specs.Pool.{shown}
+use Rattle.mg_records.specs.Crashing.{LeavesQuietly}
+use Rattle.mg_records.specs.Keeping.{Reads}
+use Rattle.mg_records.specs.Meaning.{Means}
+use Rattle.mg_records.specs.Needed.{with_room}
+use Rattle.mg_records.specs.Sessions.{SessionsStay}
+use Rattle.mg_records.specs.declared.write.Write.TheVariants as writes
+use Rattle.mg_row_writes.specs.Finding.{IsRowAt, IsSeenIn}
+use Rattle.mg_row_writes.specs.declared.finding.RowAt.{RowAt}
+use Rattle.mg_seek.specs.Histories.{told_if}
+use Rattle.mg_tending.specs.Keyed.{IsSeenAt}
+use Rattle.mg_txlist.specs.TxList.{said}
+use Rattle.mg_value.specs.declared.value.Value.{Value}
+use Rattle.mg_works.specs.Works.{AreApart, given_to}
+
+-- What is known of engines of which a row is asked for.
+pub record KeyParts {D : Type 0} (m : Meaning D) : Type 0 where
+  pub reads : ReadsGoOn D Place m
+  pub speakers : SpeakersAreTold
+  pub rows : RowsAtKeys
+  pub nothing : NothingAtKeys
+  pub begin : OpeningsBegin
+  pub found : RowsAreFound m
+  pub records : SoundRecordsAreLawful
+  pub stand : SoundTablesStand
+
+-- the rows of a table that is not the catalog are told as they are stored
+told_same : (table : Table) (row : Option Row) → same_name table.name catalog_name ≡ false → told_if table row ≡ row
+told_same table None apart = refl
+told_same table (Some row) apart = rw apart refl
+
+module _ {D : Type 0} (m : Meaning D) (parts : KeyParts m) (places : Places Place) (old : Core D) (t : TxNo)
+    (table : Table) (key : Value) (given : given_to old.works t.0 table.name ≡ Some table) where
+  -- ---- one history
+
+  module _ (o : Opening) (h : Entries) (stands : StandsFor m old o h) (continues : Continues old t.0) where
+    abbrev shows : ShowsIt m old o h (standing_of old stands.numbers stands.tables)
+    shows = shows_of m old o h stands continues.0
+
+    active : state_of o h t.0 ≡ Active
+    active = sym ((memory_of m old o h stands).state t.0) ∙ continues.1
+
+    -- a table that was given is not the catalog: the history tells it under its name
+    not_catalog : same_name table.name catalog_name ≡ false
+    not_catalog = at (same_name table.name catalog_name) refl
+        (tables_are_seen m places old o h t.0 table.name table stands active given).1
+      where
+        at : (b : Bool) → same_name table.name catalog_name ≡ b
+            → cond b None (shape_said (catalog_of (told o h) t.0) table.name
+            (catalog_of (told o h) t.0 (table_key table.name))) ≡ Some table.shape
+            → same_name table.name catalog_name ≡ false
+        at true is some = absurd cc
+        at false is some = is
+
+    table_there : IsShown shows.stands.shows.layout table
+    table_there = seen_is_shown shows.stands.shows.layout table
+        ((shows.stands.shows.tables t.0 continues.1).seen table.name table
+        (stands.given t.0 table.name table given))
+
+    abbrev knows : KnowsPages old.store.geometry.size o h (standing_of old stands.numbers stands.tables)
+        (shown old.store.dirty shows.image)
+    knows = record { memory = shows.stands.memory; shows = shows.stands.shows }
+
+    row_is : (found : RowAt)
+        → IsRowAt (said old.list) old.live t (shown old.store.dirty shows.image) table key found
+        → found.row ≡ row_at (view o h t.0) table.name key
+    row_is found at_key = at found.rec found.row at_key.seen
+        (parts.speakers old.store.geometry.size o h (standing_of old stands.numbers stands.tables)
+        (shown old.store.dirty shows.image) knows table key found.rec table_there at_key.spoken)
+      where
+        at : (r : Option RecId) (row : Option Row)
+            → IsSeenIn (said old.list) old.live t (shown old.store.dirty shows.image) table r row
+            → TellsSpeaker old.store.geometry.size o h (standing_of old stands.numbers stands.tables)
+            (shown old.store.dirty shows.image) knows table.name key r
+            → row ≡ row_at (view o h t.0) table.name key
+        at None row none (chain, silent) = none ∙ sym (parts.nothing o h table.name key t.0
+            (parts.begin o shows.stands.opening) shows.stands.legal chain active).0
+        at (Some r) row is speaks = sym (parts.rows old.store.geometry.size o h
+            (standing_of old stands.numbers stands.tables) (shown old.store.dirty shows.image) knows table key r t row
+            table_there speaks active is ∙ told_same table row not_catalog)
+
+    tables : m.tells old.store.disk ≡ true → ShowsTable m old shows.image table
+    tables told_ = shown_table parts.records parts.stand m old o h
+        (standing_of old stands.numbers stands.tables) shows told_ table table_there
+
+  -- ---- the call
+
+  read : (new : Core D) (row : Option Cells) → ReadsKey m old new t table key row
+      → GivesRow m places old new t table key (Ok row)
+  read new row is = subst (λ (c : Core D). GivesRow m places old c t table key (Ok row)) (sym is.reads.reads.same)
+      (record {
+        finds = λ o h stands active_. is.is ∙ row_is o h stands is.continues is.found (is.reads.told
+            (shows o h stands is.continues).image
+            (record { told = stands.tells; held = (shows o h stands is.continues).held }));
+        answers = λ o h stands. sym ((memory_of m old o h stands).state t.0) ∙ is.continues.1;
+        reads = both.0;
+        crash = both.1;
+        sessions = sessions_of m places old (record old { store = new.store }) t.0 (works_same old.works t.0);
+        told = λ quiet. faults;
+        undamaged = λ o h stands told_. refl;
+        room = λ o h stands told_. room_alike m old (record old { store = new.store }) None
+            (λ i tells. record {
+              told = sym is.reads.reads.keeps.disk.tells ∙ tells.told;
+              held = sym is.reads.reads.keeps.disk.held ∙ tells.held;
+            }) is.reads.reads.keeps.geometry
+            (λ i n. ap (λ (d : DirtyPages). shown d i n) is.reads.reads.keeps.dirty) tt;
+        unwritten = is.reads.reads.keeps.disk.asked;
+      })
+    where
+      faults : m.faults new.store.disk ≡ m.faults old.store.disk
+      faults = only_read m old new is.reads.reads
+
+      both : Reads (means m places) old (record old { store = new.store }) None None
+          × LeavesQuietly (means m places) old (record old { store = new.store })
+      both = parts.reads places old new.store old.damage old.shortages None None is.reads.reads.keeps (omega arith)
+          (omega arith)
+          (record { cause = tt; offline = rw is.continues.0 tt; down = is.reads.reads.keeps.offline })
+
+  refused : (refusal : Refusal) → RefusesCall old t.0 refusal
+      → GivesRow m places old old t table key (Err refusal)
+  refused refusal refuses =
+      let none : AddsNone {T = Option Cells} m places old old t.0 (Err refusal) None =
+      refused_none m places old t.0 refusal None refuses in
+      record {
+        finds = tt;
+        answers = none.answers;
+        reads = none.reads;
+        crash = none.crash;
+        sessions = none.sessions;
+        told = λ quiet. refl;
+        undamaged = λ o h stands told_. refl;
+        room = λ o h stands told_. room_kept m old old (Some refusal) refl
+            (refused_by old.store.offline (said old.list t.0) refusal refuses);
+        unwritten = refl;
+      }
+
+  fails : HasCounts old → (new : Core D) (refusal : Refusal) → FailsKey m old new t table key refusal
+      → GivesRow m places old new t table key (Err refusal)
+  fails counts new refusal is = record {
+    finds = tt;
+    answers = λ o h stands. outer.refused o h t.0;
+    reads = subst (λ (c : Core D). Reads (means m places) old c (Some refusal) None) (sym is.fails.same) both.0;
+    crash = subst (λ (c : Core D). LeavesQuietly (means m places) old c) (sym is.fails.same) both.1;
+    sessions = subst (λ (c : Core D). SessionsStay (means m places) old c None None) (sym is.fails.same)
+        (sessions_of m places old (record old {
+          store = new.store;
+          damage = new.damage;
+          shortages = new.shortages;
+        }) t.0 (works_same old.works t.0));
+    told = not_read m old new (WhyOfKey m old t table key) refusal is.fails;
+    undamaged = λ o h stands told_. unread_stands m old new (WhyOfKey m old t table key) refusal is.fails
+        (λ page field a b same. parts.found old new (shows o h stands is.continues).image table
+        (tables o h stands is.continues told_) t key (writes.Erase key) page field a b
+        (row_unread (subst (FailsReading m old new (WhyOfKey m old t table key)) same is.fails)));
+    room = λ o h stands told_. room_alike m old new (Some refusal)
+        (λ i tells. record {
+          told = sym is.fails.keeps.disk.tells ∙ tells.told;
+          held = sym is.fails.keeps.disk.held ∙ tells.held;
+        }) is.fails.keeps.geometry
+        (λ i n. ap (λ (d : DirtyPages). shown d i n) is.fails.keeps.dirty)
+        (unread_other m old new (WhyOfKey m old t table key) refusal is.fails);
+    unwritten = is.fails.keeps.disk.asked;
+  }
+    where
+      outer : IsOuter m places old
+          (record old { store = new.store; damage = new.damage; shortages = new.shortages }) refusal
+      outer = fault_outer m places old new.store new.damage new.shortages is.continues.0 is.fails.keeps counts.damage
+          counts.shortages is.fails.fault refusal is.fails.is is.fails.own is.fails.told is.fails.counts
+
+      both : Reads (means m places) old
+          (record old { store = new.store; damage = new.damage; shortages = new.shortages }) (Some refusal) None
+          × LeavesQuietly (means m places) old
+          (record old { store = new.store; damage = new.damage; shortages = new.shortages })
+      both = parts.reads places old new.store new.damage new.shortages (Some refusal) None is.fails.keeps outer.damage
+          outer.shortages outer.may
+
+pub keys_go_on : {D : Type 0} (m : Meaning D) → KeyParts m → KeysGoOn D m
+keys_go_on m parts places old new t table key (Ok row) counts given is = read m parts places old t table key given new
+    row is
+keys_go_on {D} m parts places old new t table key (Err refusal) counts given (inl (refuses, same)) =
+    subst (λ (c : Core D). GivesRow m places old c t table key (Err refusal)) (sym same)
+    (refused m parts places old t table key given refusal refuses)
+keys_go_on m parts places old new t table key (Err refusal) counts given (inr is) =
+    fails m parts places old t table key given counts new refusal is
+
+-- ---- the engine
+
+-- its core is its value
+pub gives_as : {D : Type 0} (m : Meaning D) (inside old new : Core D) → inside ≡ old → inside.damage < 2 ^ 64
+    → inside.shortages < 2 ^ 64 → KeysGoOn D m → (t : TxNo) (table : Table) (key : Value)
+    (result : Result (Option Cells) Refusal) → given_to old.works t.0 table.name ≡ Some table
+    → AnswersKey m inside new t table key result → GivesRow m core_places old new t table key result
+gives_as {D} m inside old new same damage shortages law t table key result given answers =
+    subst (λ (c : Core D). GivesRow m core_places c new t table key result) same
+    (law core_places inside new t table key result (record { damage = damage; shortages = shortages })
+    (subst (λ (c : Core D). given_to c.works t.0 table.name ≡ Some table) (sym same) given) answers)
+
+-- each session has one active transaction at most
+pub keys_apart : {D : Type 0} (m : Meaning D) (old new : Core D) (t : TxNo) (table : Table) (key : Value)
+    (result : Result (Option Cells) Refusal) → AnswersKey m old new t table key result → AreApart old.works
+    → AreApart new.works
+keys_apart {D} m old new t table key (Ok row) is apart =
+    subst AreApart (sym (ap (λ (c : Core D). c.works) is.reads.reads.same)) apart
+keys_apart {D} m old new t table key (Err refusal) (inl (refuses, same)) apart =
+    subst AreApart (sym (ap (λ (c : Core D). c.works) same)) apart
+keys_apart {D} m old new t table key (Err refusal) (inr is) apart =
+    subst AreApart (sym (ap (λ (c : Core D). c.works) is.fails.same)) apart
+
+-- ---- with the room that openings promise
+
+pub finds_with : {R P : Type 0} (m : Means R P) (old : R) (t : ℕ) (name : List ℕ) (key : Value)
+    (result : Result (Option Cells) Refusal) → IfOk result (IsSeenAt m old t name key)
+    → IfOk result (IsSeenAt (with_room m) old t name key)
+finds_with m old t name key (Ok row) finds = λ o h has active. finds o h has.stands active
+finds_with m old t name key (Err refusal) finds = tt

@@ -1,0 +1,14 @@
+use Rattle.mg_engine.proofs.KeyedLemmas.{keys_go_on}
+use Rattle.mg_engine.proofs.keyed.keys_go_on.Goals as goal
+
+pub returns : goal.returns
+returns g c = keys_go_on g.D.Disk.meaning (record {
+  reads = c.reads_go_on.ensures;
+  speakers = c.keys_are_answered.ensures.speakers;
+  rows = c.keys_are_answered.ensures.rows;
+  nothing = c.keys_are_answered.ensures.nothing;
+  begin = c.histories_go_on.ensures.begins;
+  found = c.reads_meet_no_damage.ensures.rows;
+  records = c.sound_images_are_lawful.ensures.records;
+  stand = c.sound_images_are_lawful.ensures.tables;
+})

@@ -1,0 +1,15 @@
+-- The row with a key.
+use Rattle.std.specs.Prelude.{◌≡◌, ℕ, List, Option}
+use Rattle.mg_base.specs.declared.transaction.TxState.TheVariants.{Active}
+use Rattle.mg_value.specs.declared.value.Value.{Value}
+use Rattle.mg_model.specs.declared.opening.Opening.{Opening}
+use Rattle.mg_model.specs.Changes.{Cells, row_at}
+use Rattle.mg_model.specs.History.{Entries}
+use Rattle.mg_model.specs.Machine.{state_of, view}
+use Rattle.mg_records.specs.Meaning.{Means}
+
+-- this is the row with a key of a table that an active transaction sees, none where it sees none: so it is by each
+-- history that the value stands for
+abbrev pub IsSeenAt : {R P : Type 0} → Means R P → R → ℕ → List ℕ → Value → Option Cells → Type 0
+IsSeenAt m old t name key row = (o : Opening) (h : Entries) → m.stands old o h → state_of o h t ≡ Active
+    → row ≡ row_at (view o h t) name key
