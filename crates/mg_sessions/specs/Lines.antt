@@ -1,15 +1,19 @@
 -- Which lines are obeyed, and which statements are read.
-use Rattle.std.specs.Prelude.{◌≡◌, ◌⊎◌, ◌<◌, ◌≤◌, ℕ, true, false, List, Result, Ok, Err}
+use Rattle.std.specs.Prelude.{◌≡◌, ◌⊎◌, ◌<◌, ◌≤◌, ◌-◌, ℕ, true, false, List, Result, Ok, Err}
 use Rattle.mg_statements.specs.declared.fault.SqlFault.{SqlFault}
 use Rattle.mg_statements.specs.declared.statement.Statement.{Statement}
 use Rattle.mg_sql.specs.Answers.{Parses}
 use Rattle.mg_statements.specs.Plain.{plain_of}
+use Rattle.mg_records.specs.Meaning.{Means}
+use Rattle.mg_rows.specs.declared.outcome.Outcome.TheVariants.{Fine}
 use Rattle.mg_rows.specs.declared.statement_fault.StatementFault.{StatementFault}
 use Rattle.mg_rows.specs.declared.statement_fault.StatementFault.TheVariants.{Busy}
 use Rattle.mg_rows.specs.Faults.{of_sql}
 use Rattle.mg_script.specs.declared.line.LineKind.{LineKind}
 use Rattle.mg_script.specs.declared.line.LineKind.TheVariants as kinds
 use Rattle.mg_script.specs.declared.line.Session.{Session}
+use Rattle.mg_script.specs.declared.reply.Reply.{Reply}
+use Rattle.mg_script.specs.declared.reply.Reply.TheVariants as replies
 use Rattle.mg_script.specs.declared.line.TheConstants.{SESSIONS}
 use Rattle.mg_script.specs.Lines.{MayBeHeld}
 use Rattle.mg_transcript.specs.Lines.{RefusesText}
@@ -30,6 +34,11 @@ IsObeyable (kinds.Put key value) = Unit {0}
 IsObeyable (kinds.Get key) = Unit {0}
 IsObeyable kinds.Silent = Unit {0}
 IsObeyable kinds.Bad = Unit {0}
+
+-- `@write n` that is answered OK has written n changed pages: fewer only where none is changed any more
+abbrev pub WritesPages : {R P : Type 0} → Means R P → R → R → LineKind → Reply → Type 0
+WritesPages m old new (kinds.Write most) (replies.Ok Fine) = m.unwritten new ≡ m.unwritten old - most
+WritesPages m old new kind reply = Unit {0}
 
 -- a fault of a text, as that of a statement
 pub record IsTextFault (text : List ℕ) (fault : StatementFault) : Type 0 where

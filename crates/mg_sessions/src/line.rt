@@ -10,7 +10,7 @@ ghost use Rattle.mg_courses.specs.Running.{refusal_answered};
 ghost use Rattle.mg_pending.specs.Standing.{AreReady, StandAt};
 ghost use Rattle.mg_sessions.specs.Accounts.{Accounts};
 ghost use Rattle.mg_sessions.specs.Coming.{ComesTo};
-ghost use Rattle.mg_sessions.specs.Lines.{IsObeyable};
+ghost use Rattle.mg_sessions.specs.Lines.{IsObeyable, WritesPages};
 
 use crate::holding::{obey_go, obey_step};
 use crate::shorthand::{obey_get, obey_put};
@@ -42,6 +42,7 @@ where
         (Does o h size us kind.now result) }
     ensures ready { AreReady R.meaning R.runs r.new sessions.new.transactions sessions.new.pending.items }
     ensures accounts { Accounts R.meaning r.old r.new (refusal_answered result) }
+    ensures writes { WritesPages R.meaning r.old r.new kind.now result }
 {
     match kind {
         LineKind::Sql { session, text } => {

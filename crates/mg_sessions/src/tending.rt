@@ -14,6 +14,7 @@ ghost use Rattle.mg_courses.specs.Running.{refusal_answered};
 ghost use Rattle.mg_pending.specs.Standing.{AreReady, StandAt};
 ghost use Rattle.mg_sessions.specs.Accounts.{Accounts};
 ghost use Rattle.mg_sessions.specs.Coming.{ComesTo};
+ghost use Rattle.mg_sessions.specs.Lines.{WritesPages};
 ghost use Rattle.mg_courses.specs.Carrying.{Carries};
 
 use mg_courses::Tends;
@@ -31,6 +32,7 @@ pub(crate) fn obey_write<R: Tends>(r: &mut R, sessions: &Sessions<R::Run>, most:
         (Does o h size us (kinds.Write most) result) }
     ensures ready { AreReady R.meaning R.runs r.new sessions.now.transactions sessions.now.pending.items }
     ensures accounts { Accounts R.meaning r.old r.new (refusal_answered result) }
+    ensures writes { WritesPages R.meaning r.old r.new (kinds.Write most) result }
 {
     match write_pages(r, most) {
         Ok(()) => Reply::Ok(Outcome::Fine),
