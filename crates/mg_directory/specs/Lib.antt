@@ -1,0 +1,5 @@
+pub mod Hashes
+pub mod Candidates
+pub mod CandidateLaws
+pub mod Chains
+pub mod Bounds
