@@ -1,18 +1,33 @@
 -- Taking back stops after some keys.
-use Rattle.std.proofs.Common.{◌≡◌, sym, subst, ◌∙◌, ℕ, true, false, List, ◌∷◌, None, Some}
+use Rattle.std.proofs.Common.{◌≡◌, ap, sym, subst, ◌∙◌, ℕ, true, false, List, ◌∷◌, None, Some}
 use Rattle.mg_base.specs.Disk.{MayLeave, Meaning}
 use Rattle.mg_base.specs.Image.{Image}
 use Rattle.mg_base.specs.Moments.{joined, leaves_as}
 use Rattle.mg_engine_changes.specs.BackStops.{StopsAreGivenUp, StopsReading, WritesFailMidway}
-use Rattle.mg_engine_steps.specs.Again.{AreTaken, rolling}
-use Rattle.mg_engine_steps.specs.Midway.{IsMidway, MidwaysBegin}
+use Rattle.mg_base.specs.declared.transaction.TxState.{TxState}
+use Rattle.mg_engine_changes.specs.EngineGivenUp.{dead_now, states_now}
+use Rattle.mg_engine_changes.specs.RowsLost.{LoseRows}
+use Rattle.mg_engine_meaning.specs.Falling.{all_but}
+use Rattle.mg_engine_steps.specs.Again.{AreTaken, again, rolling}
+use Rattle.mg_engine_steps.specs.DeadRowsLaws.{dead_rows_go}
+use Rattle.mg_engine_steps.specs.GoesOnLaws.{pool_is_kept}
+use Rattle.mg_engine_steps.specs.Midway.{IsMidway, MidwaysAreGivenUp, MidwaysBegin}
+use Rattle.mg_engine_steps.specs.Outs.{GoOrStay}
+use Rattle.mg_engine_steps.specs.PageWrites.{AsksOtherwise}
+use Rattle.mg_image.specs.Inventory.{next_of}
+use Rattle.mg_image.specs.Sound.{IsSoundBy}
+use Rattle.mg_image_overlays.specs.KeptImages.{IsKept}
+use Rattle.mg_lasting.specs.Entries.{is_idle}
+use Rattle.mg_model.specs.Openings.{everyone}
+use Rattle.mg_overlays.specs.Overlays.{left_state}
+use Rattle.mg_pool.specs.Dirty.{DirtyPages}
 use Rattle.mg_engine_steps.specs.MidwayLaws.{holds_back}
 use Rattle.mg_engine_steps.specs.Shown.{ShowsFirst, ShowsMidway}
 use Rattle.mg_engine_steps.specs.PageWrites.{KeepAsking}
 use Rattle.mg_engine_changes.specs.GivenUp.{EnginesGiveUp, GivesUp}
 use Rattle.mg_engine_steps.specs.Batches.{ReadsLast}
 use Rattle.mg_engine_changes.specs.Backs.{BeginsBack, EndsOver}
-use Rattle.mg_engine_changes.specs.TakingStepLaws.{read_midway}
+use Rattle.mg_engine_changes.specs.TakingStepLaws.{read_cache}
 use Rattle.mg_engine_changes.specs.TakingSteps.{KeysGoOn, StandsMidway}
 use Rattle.mg_engine_changes.specs.ToTake.{SinceAreTaken, since_point}
 use Rattle.mg_grown_catalogs.specs.Grown.{CatalogGrows}
@@ -32,7 +47,7 @@ use Rattle.mg_pool.specs.Pool.{LeavesOverlays, shown}
 use Rattle.mg_pool.specs.declared.pool.Pool.{Pool}
 use Rattle.mg_pool_overlays.specs.Needs.{Asked, Sessions}
 use Rattle.mg_engine_steps.specs.Following.{FollowsEntry, StandsOn}
-use Rattle.mg_engine_steps.specs.Standing.{Standing, Stands}
+use Rattle.mg_engine_steps.specs.Standing.{ShowsHistory, Standing, Stands}
 
 module _ {D L : Type 0} (m : Meaning D) (since : SinceAreTaken) (begin : MidwaysBegin packed_form D L m)
     (first_shows : ShowsFirst packed_form) (go_on : KeysGoOn D L m) (reads : ReadsLast D L m packed_form)
@@ -47,43 +62,92 @@ module _ {D L : Type 0} (m : Meaning D) (since : SinceAreTaken) (begin : Midways
   taken : AreTaken o h e t (since_point point (deeds_by t (steps o h)))
   taken = since o h e t point begins.goes.back
 
-  at_stop : StandsMidway m start.geometry.size o h e t whole stops.rest s start stops.at (shown start.dirty k)
-      begins.stands.shows j asked session
-  at_stop = go_on start.geometry.size o h e point s start start stops.at (shown start.dirty k) begins.stands.shows k j
-      asked session t whole whole stops.rest stops.keys (openings o begins.stands.opening) begins.stands.legal
-      begins.stands.memory begins.goes stops.takes (record {
+  at_mid : StandsMidway m start.geometry.size o h e t whole stops.rest s start stops.mid (shown start.dirty k)
+      begins.stands.shows stops.between asked session
+  at_mid = go_on start.geometry.size o h e point s start start stops.mid (shown start.dirty k) begins.stands.shows k
+      stops.between asked session t whole whole stops.rest stops.keys (openings o begins.stands.opening)
+      begins.stands.legal begins.stands.memory begins.goes stops.takes (record {
         cache = begin o h e point s start k asked session t (since_point point (deeds_by t (steps o h))) begins.stands
             begins.lasts begins.pool begins.held begins.tells begins.goes taken;
         pages = first_shows start.geometry.size o h e t (since_point point (deeds_by t (steps o h))) s
             (shown start.dirty k) begins.stands.shows;
       })
 
-  pub midway : StandsMidway m start.geometry.size o h e t whole stops.rest s start stopped (shown start.dirty k)
-      begins.stands.shows j asked session
-  midway = read_midway m reads start.geometry.size o h e point s start stops.at stopped (shown start.dirty k)
-      begins.stands.shows j asked session t whole stops.rest (openings o begins.stands.opening) begins.stands.legal
-      begins.goes stops.keeps stops.tells (stops.ends.pool.page_size ∙ stops.ends.size) at_stop
+  pub midway : IsMidway m packed_form start.geometry.size o h e t stops.left s start stopped j asked session
+  midway = read_cache m reads start.geometry.size o h e point s start stops.at stopped j asked session t stops.left
+      (openings o begins.stands.opening) begins.stands.legal begins.goes stops.keeps stops.tells
+      (stops.ends.pool.page_size ∙ stops.ends.size) stops.cache
 
-  module _ (give_up : EnginesGiveUp D L m) (refused : Entry) (mid new : Standing) (now_asked : Asked)
+  loses_now : LoseRows start.geometry.size s.state t (shown stops.mid.dirty stops.between) (shown stopped.dirty j)
+  loses_now = subst (λ (d : DirtyPages). LoseRows start.geometry.size s.state t (shown stops.mid.dirty stops.between)
+      (shown d j)) (sym stops.keeps.dirty) stops.loses
+
+  next_now : next_of (shown stopped.dirty j) ≡ next_of (shown stops.mid.dirty stops.between)
+  next_now = ap (λ (d : DirtyPages). next_of (shown d j)) stops.keeps.dirty ∙ stops.next
+
+  module _ (give_up : EnginesGiveUp D L m) (midways_given : MidwaysAreGivenUp packed_form D L m)
+      (otherwise : AsksOtherwise D L m packed_form) (refused : Entry) (mid new : Standing) (now_asked : Asked)
       (now_session : Sessions) (grows : CatalogGrows o h) (lawful : IsLawful o h refused)
       (ends_lawful : IsLawful o (refused ∷ h) (rolling t)) (passing : is_durable refused ≡ false)
       (no_failure : may_last refused ≡ false) (gives : GivesUp o h refused (rolling t) t s mid new)
       (keep_asking : KeepAsking o (rolling t ∷ refused ∷ h) asked now_asked session now_session) where
+    -- between the keys and the rows
+    given_mid : Stands packed_form start.geometry.size o (rolling t ∷ refused ∷ h) new
+        (Some (shown stops.mid.dirty stops.between))
+    given_mid = subst (λ (n : ℕ). (stands : Stands packed_form n o h s (Some (shown start.dirty k)))
+        → IsMidway m packed_form n o h e t stops.rest s start stops.mid stops.between asked session
+        → ShowsMidway packed_form n o h e t whole stops.rest s (shown start.dirty k) stands.shows
+        (shown stops.mid.dirty stops.between)
+        → Stands packed_form n o (rolling t ∷ refused ∷ h) new (Some (shown stops.mid.dirty stops.between)))
+        stops.mid_ends.size
+        (λ stands cache pages. (give_up o h e refused t whole stops.rest s mid new start stops.mid k stops.between asked
+        now_asked session now_session stands stops.mid_ends.pool stops.mid_ends.held grows taken lawful ends_lawful passing
+        no_failure gives keep_asking cache pages).0)
+        begins.stands at_mid.cache at_mid.pages
+
+    states : left_state (all_but t) s.state ≡ left_state everyone new.state
+    states = states_now o h refused (rolling t) t s mid new gives
+
+    kept : IsKept packed_form start.geometry.size o (again t stops.left (e ∷ h)) (left_state (all_but t) s.state)
+        (shown stopped.dirty j) (shown stopped.dirty j)
+    kept = pool_is_kept packed_form D L start.geometry.size o (again t stops.left (e ∷ h)) s.state asked session stopped j
+        (all_but t) midway.kept
+
+    lost : (given_mid.shows.layout ≡ kept.layout) × GoOrStay t given_mid.shows.reading kept.reading
+    lost = loses_now given_mid.shows.layout kept.layout given_mid.shows.reading kept.reading
+        (subst (λ (x : ℕ → TxState). IsSoundBy packed_form start.geometry.size x (shown stops.mid.dirty stops.between)
+        given_mid.shows.layout given_mid.shows.reading) (sym states) given_mid.shows.sound) kept.sound
+
+    -- the rows have gone of a dead transaction
+    shows_then : ShowsHistory packed_form start.geometry.size o (rolling t ∷ refused ∷ h) new (shown stopped.dirty j)
+    shows_then = dead_rows_go packed_form start.geometry.size o (rolling t ∷ refused ∷ h) new t
+        (shown stops.mid.dirty stops.between) (shown stopped.dirty j) given_mid.shows kept.layout kept.reading
+        (dead_now o h refused (rolling t) t s mid new gives)
+        (subst (λ (x : ℕ → TxState). IsSoundBy packed_form start.geometry.size x (shown stopped.dirty j) kept.layout
+        kept.reading) states kept.sound) lost.0 next_now lost.1
+
+    lasting : LastsOn m packed_form o (rolling t ∷ refused ∷ h) stopped asked session
+        × LeavesSince m start.disk stopped.disk (HoldsAcknowledged packed_form start.geometry.size o h)
+    lasting = subst (λ (n : ℕ). IsMidway m packed_form n o h e t stops.left s start stopped j asked session
+        → LastsOn m packed_form o (rolling t ∷ refused ∷ h) stopped asked session
+        × LeavesSince m start.disk stopped.disk (HoldsAcknowledged packed_form n o h)) ends.size
+        (λ cache. midways_given o h e refused s start stopped j asked session t stops.left (ap is_idle gives.nothing)
+        passing no_failure cache) midway
+
     pub given_up : Stands packed_form start.geometry.size o (rolling t ∷ refused ∷ h) new
         (Some (shown stopped.dirty j))
         × LastsOn m packed_form o (rolling t ∷ refused ∷ h) stopped now_asked now_session
         × LeavesSince m start.disk stopped.disk (HoldsAcknowledged packed_form start.geometry.size o h)
-    given_up = subst (λ (n : ℕ). (stands : Stands packed_form n o h s (Some (shown start.dirty k)))
-        → IsMidway m packed_form n o h e t stops.rest s start stopped j asked session
-        → ShowsMidway packed_form n o h e t whole stops.rest s (shown start.dirty k) stands.shows
-        (shown stopped.dirty j)
-        → Stands packed_form n o (rolling t ∷ refused ∷ h) new (Some (shown stopped.dirty j))
-        × LastsOn m packed_form o (rolling t ∷ refused ∷ h) stopped now_asked now_session
-        × LeavesSince m start.disk stopped.disk (HoldsAcknowledged packed_form n o h)) ends.size
-        (λ stands cache pages. give_up o h e refused t whole stops.rest s mid new start stopped k j asked now_asked
-        session now_session stands ends.pool ends.held grows taken lawful ends_lawful passing no_failure gives
-        keep_asking cache pages)
-        begins.stands midway.cache midway.pages
+    given_up = (
+      record {
+        opening = given_mid.opening;
+        legal = given_mid.legal;
+        memory = given_mid.memory;
+        shows = shows_then;
+      },
+      otherwise o (rolling t ∷ refused ∷ h) stopped asked now_asked session now_session keep_asking lasting.0,
+      lasting.1,
+    )
 
   -- ---- a page write failed
 
@@ -104,7 +168,7 @@ module _ {D L : Type 0} (m : Meaning D) (since : SinceAreTaken) (begin : Midways
     since_stop : LeavesSince m stopped.disk after.disk
         (HoldsAcknowledged packed_form stopped.dirty.size o (rolling t ∷ h))
     since_stop = leaves o (rolling t ∷ h) stopped after asked session (openings o begins.stands.opening)
-        (begins.goes.ends, begins.stands.legal) told tells midway.cache.lasts crash
+        (begins.goes.ends, begins.stands.legal) told tells midway.lasts crash
 
     left_now : (c : Image) → MayLeave m after.disk c → HoldsAcknowledged packed_form start.geometry.size o h c
     left_now c may = as_was c (since_stop.left c may)
@@ -118,7 +182,7 @@ module _ {D L : Type 0} (m : Meaning D) (since : SinceAreTaken) (begin : Midways
           (quiet start.geometry.size o h refused c passing no_failure (left_now c may)),
       record {
         since = joined m start.disk stopped.disk after.disk (HoldsAcknowledged packed_form start.geometry.size o h)
-            midway.cache.leaves.since
+            midway.leaves.since
             (leaves_as m stopped.disk after.disk
             (HoldsAcknowledged packed_form stopped.dirty.size o (rolling t ∷ h))
             (HoldsAcknowledged packed_form start.geometry.size o h) as_was since_stop.since);
@@ -128,11 +192,11 @@ module _ {D L : Type 0} (m : Meaning D) (since : SinceAreTaken) (begin : Midways
 
 pub stops_are_given_up : (D L : Type 0) (m : Meaning D) → SinceAreTaken → MidwaysBegin packed_form D L m
     → ShowsFirst packed_form → KeysGoOn D L m → ReadsLast D L m packed_form → OpeningsBegin → EnginesGiveUp D L m
-    → StopsAreGivenUp D L m
-stops_are_given_up D L m since begin first_shows go_on reads openings give_up o h e refused point t s mid new start
+    → MidwaysAreGivenUp packed_form D L m → AsksOtherwise D L m packed_form → StopsAreGivenUp D L m
+stops_are_given_up D L m since begin first_shows go_on reads openings give_up midways_given otherwise o h e refused point t s mid new start
     stopped k j asked now_asked session now_session begins grows lawful ends_lawful passing no_failure gives keep_asking
     stops ends = given_up m since begin first_shows go_on reads openings o h e point t s start stopped k j asked session
-    begins stops ends give_up refused mid new now_asked now_session grows lawful ends_lawful passing no_failure gives
+    begins stops ends give_up midways_given otherwise refused mid new now_asked now_session grows lawful ends_lawful passing no_failure gives
     keep_asking
 
 pub writes_fail_midway : (D L : Type 0) (m : Meaning D) → SinceAreTaken → MidwaysBegin packed_form D L m

@@ -33,7 +33,7 @@ module _ (o : Opening) (h : Entries) (refused rolled : Entry) (t : ℕ) (s mid n
   mid_state : (u : ℕ) → mid.state u ≡ s.state u
   mid_state u = gives.first.state u ∙ ap (λ (f : Effect). state_after f u (s.state u)) gives.nothing
 
-  dead_now : new.state t ≡ Dead
+  pub dead_now : new.state t ≡ Dead
   dead_now = gives.then_.state t ∙ (ap (λ (f : Effect). state_after f t (mid.state t)) gives.dies
       ∙ rw (eq-eqb t t refl) refl)
 

@@ -30,11 +30,10 @@ use Rattle.mg_engine_steps.specs.ChangedTables.{NoneOfGone}
 use Rattle.mg_engine_steps.specs.EngineTables.{EnginesTakeTables}
 use Rattle.mg_engine_steps.specs.LeftFinds.{SeesRow, sees_row}
 use Rattle.mg_engine_steps.specs.Outs.{is_among}
-use Rattle.mg_engine_steps.specs.RowsTaken.{RowsAreTaken}
 use Rattle.mg_engine_steps.specs.ShapesLeft.{table_left}
 use Rattle.mg_engine_steps.specs.TablesBack.{AreRowsLeft, TablesAreTaken, TakesOnPages}
-use Rattle.mg_engine_steps.specs.Again.{again, without_key, AreTaken}
-use Rattle.mg_engine_steps.specs.Midway.{GoesBack, MidwaysBegin}
+use Rattle.mg_engine_steps.specs.Again.{without_key, AreTaken}
+use Rattle.mg_engine_steps.specs.Midway.{GoesBack, IsMidway, MidwaysBegin}
 use Rattle.mg_engine_steps.specs.OwnChains.{newest_second}
 use Rattle.mg_engine_steps.specs.Shown.{ShowsFirst}
 use Rattle.mg_engine_steps.specs.Unasked.{UnaskingLasts}
@@ -80,7 +79,7 @@ use Rattle.mg_undo.specs.declared.changes.Change.{Change as Kept}
 use Rattle.mg_value.specs.declared.value.Value.{Value}
 use Rattle.mg_works.specs.Works.{Working, given_by, given_to, unasked, with_undo, with_work, without_tables, work_of, without_written, tables_left}
 use Rattle.mg_works.specs.WorksLaws.{with_its, with_others}
-use Rattle.mg_engine_changes.specs.CoreRows.{CoresTakeRows, HasTakenRows}
+use Rattle.mg_engine_changes.specs.CoreRows.{CoresTakeRows, HasTakenTables}
 use Rattle.mg_engine_changes.specs.EngineOver.{EnginesGoOver, IsBackEntry, OthersWalkOver}
 use Rattle.mg_engine_changes.specs.KeptOverLaws.{left_one, told_left}
 use Rattle.mg_engine_changes.specs.ListsTell.{KeysGoWhole, ListsTellWhole}
@@ -115,7 +114,7 @@ without_fewer name key (c ∷ cs) n k has = at (is_at c name key) has (without_f
     at true has_ more = or_true (is_at c n k) (has_change cs n k) (more has_)
     at false has_ more = by (is_at c n k) has_ more
 
-rest_within : {D L : Type 0} (m : Meaning D) (size : ℕ) (o : Opening) (h : Entries) (e : Entry) (t : ℕ) (s : Standing)
+pub rest_within : {D L : Type 0} (m : Meaning D) (size : ℕ) (o : Opening) (h : Entries) (e : Entry) (t : ℕ) (s : Standing)
     (speaker : List ℕ → Value → Option RecId) (keys left rest : List Change) (before after : Pool D L) (i j : Image)
     → TakesKeysOf m size o h e t s speaker keys left rest before after i j → (name : List ℕ) (key : Value)
     → has_change rest name key ≡ true → has_change left name key ≡ true
@@ -125,7 +124,7 @@ rest_within m size o h e t s speaker all left rest before after i j (one_key {ke
     rest mid after k j more name key has)
 
 -- no change is dropped by going back
-going_changes : (undo : Undo) (point : Point) → (going_to undo point).changes ≡ undo.changes
+pub going_changes : (undo : Undo) (point : Point) → (going_to undo point).changes ≡ undo.changes
 going_changes undo LastMark = refl
 going_changes undo (SavepointNamed name) = at (has_point undo (Some name)) refl
   where
@@ -140,7 +139,7 @@ module _ {D : Type 0} (m : Meaning D) (openings : OpeningsBegin) (unask : Unaski
     (first_shows : ShowsFirst packed_form) (what_was : GivesWhatWas) (keys_law : KeysAreTaken) (apart : GivenApart)
     (rows_law : RowsAreLeft) (tell : ListsTellWhole) (takes_all : CoresTakeAll D m) (keep : KeysKeepLists D FireLinks m)
     (rows_taken : CoresTakeRows D m) (follow : TablesFollow) (engines : EnginesTakeTables D FireLinks m)
-    (pages_taken : TablesAreTaken D FireLinks m) (outs_taken : RowsAreTaken D FireLinks) (none_left : NoneOfGone)
+    (pages_taken : TablesAreTaken D FireLinks m) (none_left : NoneOfGone)
     (old new : Core D) (t : ℕ)
     (point : Point) (o : Opening) (h : Entries) (e : Entry) (core : IsCore m old) (takes : TakesTablesTo m old new t point)
     (stands : StandsFor m old o h) (is : IsBackEntry o h e t point)
@@ -371,11 +370,21 @@ module _ {D : Type 0} (m : Meaning D) (openings : OpeningsBegin) (unask : Unaski
   mid_catalog : both.mid.catalog ≡ old.catalog
   mid_catalog = ap (λ (c : Core D). c.catalog) taken.same
 
-  rows : HasTakenRows m s t takes.takes.keys both.mid takes.takes.taken taken.image
-  rows = rows_taken size s t takes.takes.keys both.mid takes.takes.taken taken.image
-      (subst IsCatalog (sym mid_catalog) core.catalog)
-      (sym (ap (λ (c : Core D). said c.list) taken.same)) (sym (ap (λ (c : Core D). c.live) taken.same)) taken.knows
-      (ap (λ (x : Table). x.pointer.0) mid_catalog ∙ taken.catalog) both.rows
+  midway_mid : IsMidway m packed_form both.mid.store.geometry.size o h e t taken.rest s old.store both.mid.store taken.image
+      (asked_in (with_work t unasked old.works)) (sessions_in old.works)
+  midway_mid = subst (λ (n : ℕ). IsMidway m packed_form n o h e t taken.rest s old.store both.mid.store taken.image
+      (asked_in (with_work t unasked old.works)) (sessions_in old.works)) (sym taken.knows.size_is) taken.midway.cache
+
+  rows : HasTakenTables m s t takes.takes.keys both.mid takes.takes.taken taken.image
+  rows = rows_taken o h e point s old.store (asked_in (with_work t unasked old.works)) (sessions_in old.works) t taken.rest
+      takes.takes.keys both.mid takes.takes.taken taken.image opening (is.lawful, shows.stands.legal) stands.grows
+      shows.stands.memory goes rows_left midway_mid (subst IsCatalog (sym mid_catalog) core.catalog)
+      (sym (ap (λ (c : Core D). said c.list) taken.same)) (sym (ap (λ (c : Core D). c.live) taken.same)) (record {
+        pool_is = taken.knows.pool_is;
+        geometry = taken.knows.geometry;
+        online = taken.knows.online;
+        tells = taken.knows.tells;
+      }) (ap (λ (x : Table). x.pointer.0) mid_catalog ∙ taken.catalog) both.rows
 
   -- ---- memory
 
@@ -391,7 +400,7 @@ module _ {D : Type 0} (m : Meaning D) (openings : OpeningsBegin) (unask : Unaski
   new_is : new ≡ record old { waits = takes.begun.waits; store = takes.takes.taken.store; works = works_now }
   new_is = takes.takes.same
       ∙ ap (λ (c : Core D). record c { works = works_left t takes.takes.end takes.takes.keys c.works })
-      (both.rows.same ∙ ap (λ (c : Core D). record c { store = takes.takes.taken.store }) taken.same)
+      (rows.same ∙ ap (λ (c : Core D). record c { store = takes.takes.taken.store }) taken.same)
 
   its_tables : (name : List ℕ) → tables_now t name ≡ table_left (is_among takes.takes.keys) (stands.tables t) name
   its_tables name = rw (eq-eqb t t refl) refl
@@ -458,17 +467,15 @@ module _ {D : Type 0} (m : Meaning D) (openings : OpeningsBegin) (unask : Unaski
       (asked_in (with_work t unasked old.works)) (sessions_in old.works)
       × TakesOnPages k o h e t taken.rest s mid.pages.layout mid.pages.reading (shown both.mid.store.dirty taken.image)
       (shown takes.takes.taken.store.dirty rows.image) (is_among takes.takes.keys)) same
-      (λ its size_is mid.
-      let outs = outs_taken both.mid.store taken.image o (again t taken.rest (e ∷ h)) s.state s.live t rows.step.table
-      takes.takes.keys rows.step.batch (asked_in (with_work t unasked old.works)) (sessions_in old.works) continues.1
-      rows.step.catalog mid.cache.kept rows.step.takes in (
+      (λ its size_is mid. (
         engines o h e point s s_now old.store both.mid.store takes.takes.taken.store shows.image taken.image rows.image
             (asked_in (with_work t unasked old.works)) (sessions_in old.works) t whole taken.rest takes.takes.keys its
-            size_is stands.grows is.lawful goes all_taken rows_left follows refl (fewer t) mid.cache mid.pages rows.step,
-        pages_taken o h e point s old.store both.mid.store takes.takes.taken.store taken.image rows.image rows.step.batch
+            size_is stands.grows is.lawful goes all_taken rows_left follows refl (fewer t) mid.cache mid.pages rows.steps
+            rows.knows.pool_is rows.knows.tells.held rows.size_is,
+        pages_taken o h e point s old.store both.mid.store takes.takes.taken.store taken.image rows.image
             (asked_in (with_work t unasked old.works)) (sessions_in old.works) t whole taken.rest takes.takes.keys
             (shown old.store.dirty shows.image) its.shows opening (is.lawful, its.legal) stands.grows its.memory goes
-            all_taken rows_left mid.cache mid.pages rows.step.was outs.0 outs.1,
+            all_taken rows_left mid.cache mid.pages rows.steps,
       ))
 
   step : HasGoneOn m packed_form size o h e s_now old.store takes.takes.taken.store rows.image
@@ -478,7 +485,7 @@ module _ {D : Type 0} (m : Meaning D) (openings : OpeningsBegin) (unask : Unaski
   step = step_at size taken.knows.size_is shows.stands core.pool.page_size taken.midway
 
   size_now : takes.takes.taken.store.geometry.size ≡ size
-  size_now = rows.step.size_is ∙ taken.knows.size_is
+  size_now = rows.size_is ∙ taken.knows.size_is
 
   -- ---- what it stands for
 
@@ -520,7 +527,7 @@ module _ {D : Type 0} (m : Meaning D) (openings : OpeningsBegin) (unask : Unaski
   shows_now : ShowsIt m now o (e ∷ h) s_now
   shows_now = record {
     image = rows.image;
-    held = rows.tells.held;
+    held = rows.knows.tells.held;
     stands = subst (λ (n : ℕ). Stands packed_form n o (e ∷ h) s_now
         (Some (shown takes.takes.taken.store.dirty rows.image))) (sym size_now) step.0.stands;
     lasts = lasts_now;
@@ -588,14 +595,14 @@ module _ {D : Type 0} (m : Meaning D) (openings : OpeningsBegin) (unask : Unaski
 
   stands_now : StandsFor m now o (e ∷ h)
   stands_now = record {
-    tells = rows.tells.told;
+    tells = rows.knows.tells.told;
     grows = record { limbo = stands.grows.limbo; entries = (ap makes_alone is.back, stands.grows.entries) };
     bases = bases_stay o h e (λ u snapshot. ap (λ (f : Effect). takes_base f u snapshot) is.back) stands.bases;
     numbers = stands.numbers;
     tables = tables_now;
     given = given_now;
     kept = kept_now;
-    stands = subst (λ (off : Option ℕ). StandsWhile m now o (e ∷ h) s_now off) (sym rows.online) shows_now;
+    stands = subst (λ (off : Option ℕ). StandsWhile m now o (e ∷ h) s_now off) (sym rows.knows.online) shows_now;
   }
 
   pub stands_over : StandsFor m new o (e ∷ h)
@@ -665,7 +672,7 @@ module _ {D : Type 0} (m : Meaning D) (openings : OpeningsBegin) (unask : Unaski
           × AreToCome c.store.geometry.size (standing_of c stands.numbers stands.tables) (shown c.store.dirty k) u table
           after rows_) (sym new_is) (
             rows.image,
-            rows.tells.held,
+            rows.knows.tells.held,
             subst (λ (n : ℕ). AreToCome n (standing_of now stands.numbers stands.tables)
                 (shown takes.takes.taken.store.dirty rows.image) u table after rows_) (sym size_now) (walk_on after rows_
                 (subst (λ (k : Image). AreToCome size s (shown old.store.dirty k) u table after rows_) same next)),
@@ -677,19 +684,19 @@ pub engines_go_over : {D : Type 0} (m : Meaning D) → OpeningsBegin → Unaskin
     → ListsStay → SinceAreTaken → MidwaysBegin packed_form D FireLinks m → ShowsFirst packed_form → GivesWhatWas
     → KeysAreTaken → GivenApart → RowsAreLeft → ListsTellWhole → CoresTakeAll D m → KeysKeepLists D FireLinks m
     → CoresTakeRows D m → TablesFollow → EnginesTakeTables D FireLinks m → TablesAreTaken D FireLinks m
-    → RowsAreTaken D FireLinks → NoneOfGone → EnginesGoOver D m
-engines_go_over m openings unask lists since begin first_shows what_was keys_law apart rows_law tell takes_all keep rows_taken follow engines pages_taken outs_taken none_left
-    old new t point o h e core takes stands is = stands_over m openings unask lists since begin first_shows what_was keys_law apart rows_law tell takes_all keep rows_taken follow engines pages_taken outs_taken none_left old
+    → NoneOfGone → EnginesGoOver D m
+engines_go_over m openings unask lists since begin first_shows what_was keys_law apart rows_law tell takes_all keep rows_taken follow engines pages_taken none_left
+    old new t point o h e core takes stands is = stands_over m openings unask lists since begin first_shows what_was keys_law apart rows_law tell takes_all keep rows_taken follow engines pages_taken none_left old
     new t point o h e core takes stands is (shows_of m old o h stands takes.has_begun.continues.0)
 
 pub others_walk_over : {D : Type 0} (m : Meaning D) → OpeningsBegin → UnaskingLasts packed_form D FireLinks m
     → ListsStay → SinceAreTaken → MidwaysBegin packed_form D FireLinks m → ShowsFirst packed_form → GivesWhatWas
     → KeysAreTaken → GivenApart → RowsAreLeft → ListsTellWhole → CoresTakeAll D m → KeysKeepLists D FireLinks m
     → CoresTakeRows D m → TablesFollow → EnginesTakeTables D FireLinks m → TablesAreTaken D FireLinks m
-    → RowsAreTaken D FireLinks → NoneOfGone → StandsOneWay packed_form
+    → NoneOfGone → StandsOneWay packed_form
     → KeysKeepPages D FireLinks m → BackWalksGoOn → TablesWalksGoOn → SeenIsNotMade → OthersWalkOver D m
-others_walk_over m openings unask lists since begin first_shows what_was keys_law apart rows_law tell takes_all keep rows_taken follow engines pages_taken outs_taken none_left
+others_walk_over m openings unask lists since begin first_shows what_was keys_law apart rows_law tell takes_all keep rows_taken follow engines pages_taken none_left
     one_way keep_pages walks tables_walk not_seen old new t point o h e core takes stands is i held u ne active table given
-    after rows next = walks_over m openings unask lists since begin first_shows what_was keys_law apart rows_law tell takes_all keep rows_taken follow engines pages_taken outs_taken none_left old new t point o h e core takes stands is
+    after rows next = walks_over m openings unask lists since begin first_shows what_was keys_law apart rows_law tell takes_all keep rows_taken follow engines pages_taken none_left old new t point o h e core takes stands is
     (shows_of m old o h stands takes.has_begun.continues.0) one_way keep_pages walks tables_walk not_seen u ne active table
     given i held after rows next

@@ -173,14 +173,14 @@ module _ {D P : Type 0} (m : Meaning D) (places : Places P) (known : KnownOfBack
         has_begun.ended.over) stands.numbers stands.tables)
 
     told_ready : m.tells fails.ready.disk ≡ true
-    told_ready = (tells_on m stops.at.store fails.ready some.taken.image fails.keeps some.taken.knows.tells).told
+    told_ready = (tells_on m stops.at.store fails.ready some.image fails.keeps some.lost.knows.tells).told
 
     pub all : Stands packed_form size o (entry (back_event t point) (No refusal) ∷ h) s_now None
         × LeftOn m packed_form o (entry (back_event t point) (No refusal) ∷ h) stopped.store
         × LeavesSince m old.store.disk stopped.store.disk (HoldsAcknowledged packed_form size o h)
     all = known.failed o h (entry (back_event t point) Fine) (entry (back_event t point) (No refusal)) point t.0
         (standing_of old stands.numbers stands.tables) s_now old.store fails.ready stopped.store shows.image
-        some.taken.image (asked_in (with_work t.0 unasked old.works)) (sessions_in old.works) begins_so lawful
+        some.image (asked_in (with_work t.0 unasked old.works)) (sessions_in old.works) begins_so lawful
         (quiet_count (entry (back_event t point) (No refusal)) (passing_back t point)) (quiet_event (entry (back_event t point) (No refusal)) (passing_back t point)) follows
         (stops_reading m known old begun stopped t point undo refusal core has_begun stops o h stands fails.ready fails.keeps) (ends_over m known old begun stopped t point undo refusal core has_begun stops o h stands fails.ready fails.keeps) told_ready crash_now
         (failed_goes.time.tells ∙ told_ready) failed_goes.size

@@ -101,6 +101,7 @@ pub mod OverEvents
 pub mod OverGiven
 pub mod OverOutcomes
 pub mod OverOutcomesLaws
+pub mod OverRows
 pub mod OverStopped
 pub mod Overlays
 pub mod OwnVersions
@@ -124,6 +125,8 @@ pub mod RowsGiven
 pub mod RowsGivenLaws
 pub mod RowsKnown
 pub mod RowsLaws
+pub mod RowsLost
+pub mod RowsLostLaws
 pub mod Seen
 pub mod SeenLaws
 pub mod ShortLaws

@@ -1,6 +1,6 @@
 -- Taking back over tables stops: at a change of another table, or at the rows of the catalog.
 use Rattle.std.proofs.Common.{◌≡◌, ◌∙◌, ◌∷◌, ◌++◌, ◌==◌, [], ℕ, Bool, List, ap, false, refl, subst, sym, true}
-use Rattle.std.proofs.lemmas.List.{append-nil, append_assoc}
+use Rattle.std.proofs.lemmas.List.{append_assoc}
 use Rattle.std.specs.Prelude.{if◌then◌else◌, map}
 use Rattle.mg_base.specs.Disk.{Meaning}
 use Rattle.mg_base.specs.declared.numbers.TxNo.{TxNo}
@@ -29,15 +29,19 @@ use Rattle.mg_engine_changes.specs.Keys.{HasTakenKeys, IsOfTable}
 use Rattle.mg_engine_changes.specs.Known.{KnownOfBacks}
 use Rattle.mg_engine_changes.specs.Memory.{MayGoTo}
 use Rattle.mg_engine_changes.specs.Outcomes.{back_event}
-use Rattle.mg_engine_changes.specs.StageLaws.{own_left, own_tells}
 use Rattle.mg_engine_changes.specs.Stopped.{IsPart, each_front, part_of}
 use Rattle.mg_engine_changes.specs.Stopping.{StopsAs, stops_as}
 use Rattle.mg_engine_changes.specs.StopsAfter.{StopsAfter, begun_as}
 use Rattle.mg_engine_changes.specs.ToTake.{AreKeysOf, EachChange, since_point}
-use Rattle.mg_table_takings.specs.Keys.{others_of}
-use Rattle.mg_table_takings.specs.Takings.{FailsTheRows, StopsBoth, StopsOthers, TakesOthers, stops_at_other, stops_at_rows}
+use Rattle.mg_table_takings.specs.Keys.{AreRowsToTake, others_of}
+use Rattle.mg_table_takings.specs.Takings.{StopsBoth, StopsOthers, stops_at_other, stops_at_rows}
 use Rattle.mg_engine_changes.specs.OverGiven.{each_of_table, others_are}
-use Rattle.mg_engine_changes.specs.RowsGiven.{GivenApart, of_catalog, of_others}
+use Rattle.mg_engine_changes.specs.RowsGiven.{GivenApart, RowsAreLeft, of_catalog, of_others}
+use Rattle.mg_engine_changes.specs.ListsTell.{ListsTellWhole}
+use Rattle.mg_engine_changes.specs.OverRows.{at_rows, known_store, stops_among, taken_mid}
+use Rattle.mg_engine_changes.specs.RowsLostLaws.{nothing_lost}
+use Rattle.mg_engine_steps.specs.TablesBack.{TablesGoOn}
+use Rattle.mg_space.specs.declared.links.FireLinks.{FireLinks}
 
 -- ---- lists
 
@@ -57,8 +61,8 @@ keys_on : (keys more rows all left : List Change) → all ≡ keys ++ more → A
 keys_on keys more rows all left parts are = subst (λ (cs : List Change). AreKeysOf cs left) (append_assoc keys more rows)
     (subst (λ (cs : List Change). AreKeysOf (cs ++ rows) left) parts are)
 
-module _ {D P : Type 0} (m : Meaning D) (known : KnownOfBacks D P m) (apart : GivenApart)
-    (old begun stopped : Core D) (t : TxNo) (point : Point) (undo : Undo) (refusal : Refusal) (core : IsCore m old)
+module _ {D P : Type 0} (m : Meaning D) (known : KnownOfBacks D P m) (apart : GivenApart) (rows_law : RowsAreLeft)
+    (tell : ListsTellWhole) (go_on : TablesGoOn D FireLinks m) (old begun stopped : Core D) (t : TxNo) (point : Point) (undo : Undo) (refusal : Refusal) (core : IsCore m old)
     (has_begun : HasBegun old begun t.0 undo) (reaches : MayReach undo point) where
   abbrev page : ℕ
   page = old.catalog.pointer.0
@@ -141,7 +145,14 @@ module _ {D P : Type 0} (m : Meaning D) (known : KnownOfBacks D P m) (apart : Gi
         over = λ o h stands shows. record {
           keys = (part o h stands shows).keys;
           more = (part o h stands shows).more ++ of_catalog (first_of (since_point point (deeds_by t.0 (steps o h))));
+          mid = at_core;
+          image = (has_taken o h stands shows).image;
           taken = has_taken o h stands shows;
+          lost = nothing_lost m known.one_way old.store.geometry.size o h (entry (back_event t point) Fine) t.0
+              (standing_of old stands.numbers stands.tables) old.store at_core (has_taken o h stands shows).image
+              (asked_in (with_work t.0 unasked old.works)) (sessions_in old.works) (has_taken o h stands shows).rest
+              (has_taken o h stands shows).midway.cache (known_store (has_taken o h stands shows).knows)
+              (has_taken o h stands shows).knows.size_is;
         };
       }
 
@@ -157,27 +168,12 @@ module _ {D P : Type 0} (m : Meaning D) (known : KnownOfBacks D P m) (apart : Gi
       stops_so stops.given rest.0 rest.1 all stops.at stops.takes (stops_as m known.counts_now stops.at stopped t.0
       stops.change refusal has.pool has.on.online stops.fails)
 
-  -- at the rows of the catalog
-  rows_as : (mid : Core D) (keys : List Value) → FailsTheRows m mid stopped t.0 keys refusal → StopsAs m mid stopped refusal
-  rows_as mid keys fails = record {
-    fault = fails.fault;
-    left = own_left m mid.store stopped.store _ _ fails.fault fails.fails.own;
-    told = own_tells m mid.store stopped.store _ _ fails.fault fails.fails.own;
-    is = fails.is;
-    names = fails.names;
-    counts = fails.counts;
-    same = fails.same;
-  }
-
-  at_rows : (mid : Core D) (end : Undo) (keys : List Value)
-      → TakesOthers m (not_asking t.0 begun) mid t.0 (going_to undo point) end → FailsTheRows m mid stopped t.0 keys refusal
-      → StopsAfter m old begun stopped t point refusal
-  at_rows mid end keys others fails = stops_so others.given [] end
-      (subst (λ (cs : List Kept). GivesAll (going_to undo point) cs end) (sym (append-nil others.given)) others.steps) mid
-      others.takes (rows_as mid keys fails)
-
-  pub stops_over : (keys : List Value)
+  pub stops_over : (keys : List Value) → AreRowsToTake begun.catalog.pointer.0 (going_to undo point) keys
       → StopsBoth m (not_asking t.0 begun) stopped t.0 (going_to undo point) keys refusal
       → StopsAfter m old begun stopped t point refusal
-  stops_over keys (stops_at_other stops) = at_other stops
-  stops_over keys (stops_at_rows mid end others fails) = at_rows mid end keys others fails
+  stops_over keys rows_to (stops_at_other stops) = at_other stops
+  stops_over keys rows_to (stops_at_rows mid end others_ fails) =
+      let taken_ = taken_mid m known apart rows_law tell go_on old begun stopped t point undo refusal core has_begun
+      reaches mid end keys rows_to others_ in
+      at_rows m known apart rows_law tell go_on old begun stopped t point undo refusal core has_begun reaches mid end keys
+      rows_to others_ (stops_among m t.0 refusal keys mid stopped taken_.pool taken_.on.online fails)

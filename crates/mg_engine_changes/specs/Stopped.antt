@@ -10,6 +10,8 @@ use Rattle.mg_engine_changes.specs.Chains.{HasTaken, keys_taken}
 use Rattle.mg_engine_changes.specs.Events.{back_entry}
 use Rattle.mg_engine_changes.specs.Known.{KnownOfBacks}
 use Rattle.mg_engine_changes.specs.Outcomes.{LeavesTheCatalog, back_event}
+use Rattle.mg_engine_changes.specs.RowsLost.{HasLost}
+use Rattle.mg_engine_changes.specs.RowsLostLaws.{nothing_lost}
 use Rattle.mg_engine_changes.specs.Stopping.{StopsAs, stops_as}
 use Rattle.mg_engine_changes.specs.StopsAfter.{StopsAfter, begun_as}
 use Rattle.mg_engine_meaning.specs.Standings.{ShowsIt, StandsFor, asked_in, sessions_in, standing_of, undo_kept}
@@ -136,6 +138,17 @@ module _ {D P : Type 0} (m : Meaning D) (known : KnownOfBacks D P m) (old begun 
         (midway m known old begun t point undo core has_begun o h stands shows)
         (knows m known old begun t point undo core has_begun o h stands shows) shows.catalog
 
+    none_lost : HasLost m size o h e t.0 s old.store stops.at stops.at has_taken.image has_taken.image
+        (asked_in (with_work t.0 unasked old.works)) (sessions_in old.works)
+    none_lost = nothing_lost m known.one_way size o h e t.0 s old.store stops.at has_taken.image
+        (asked_in (with_work t.0 unasked old.works)) (sessions_in old.works) has_taken.rest has_taken.midway.cache
+        (record {
+          pool_is = has_taken.knows.pool_is;
+          geometry = has_taken.knows.geometry;
+          online = has_taken.knows.online;
+          tells = has_taken.knows.tells;
+        }) has_taken.knows.size_is
+
   -- ---- both
 
   pub stops_after : StopsAfter m old begun stopped t point refusal
@@ -146,6 +159,9 @@ module _ {D P : Type 0} (m : Meaning D) (known : KnownOfBacks D P m) (old begun 
     over = λ o h stands shows. record {
       keys = (part o h stands shows).keys;
       more = (part o h stands shows).more;
+      mid = stops.at;
+      image = (has_taken o h stands shows).image;
       taken = has_taken o h stands shows;
+      lost = none_lost o h stands shows;
     };
   }

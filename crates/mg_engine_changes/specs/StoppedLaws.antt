@@ -1,12 +1,20 @@
 -- A change was not taken back, and so the transaction is rolled back: its engine stands for the history with the refused
 -- event and the rollback.
 use Rattle.std.proofs.Common.{◌≡◌, ◌≢◌, ◌⊎◌, ◌∙◌, ◌∷◌, ◌==◌, ◌≤◌, [], ℕ, Bool, Err, List, None, Option, Some, ap, false, inl, inr, not, refl, subst, sym, true}
-use Rattle.std.proofs.lemmas.Bool.{cases_eq, eq-eqb}
+use Rattle.std.proofs.lemmas.Bool.{cases_eq, eq-eqb, ne_eqb}
 use Rattle.std.specs.Prelude.{if◌then◌else◌}
 use Rattle.mg_base.specs.Disk.{Meaning}
 use Rattle.mg_base.specs.Image.{Image}
 use Rattle.mg_base.specs.declared.numbers.TxNo.{TxNo}
+use Rattle.mg_base.specs.declared.transaction.TxState.{TxState}
 use Rattle.mg_base.specs.declared.transaction.TxState.TheVariants.{Active, Dead}
+use Rattle.mg_chain.specs.Chains.{takes_version}
+use Rattle.mg_engine_changes.specs.EngineGivenUp.{states_now}
+use Rattle.mg_engine_changes.specs.RowsLostLaws.{walks_past}
+use Rattle.mg_engine_steps.specs.GoesOnLaws.{pool_is_kept}
+use Rattle.mg_image.specs.Tables.{Layout}
+use Rattle.mg_image_overlays.specs.KeptImages.{IsKept}
+use Rattle.mg_space.specs.declared.links.FireLinks.{FireLinks}
 use Rattle.mg_core.specs.Cores.{IsCore}
 use Rattle.mg_core.specs.declared.parts.Core.{Core}
 use Rattle.mg_engine_changes.specs.Events.{active_here, passing_back, whose_back}
@@ -20,7 +28,7 @@ use Rattle.mg_engine_meaning.specs.StepLaws.{shows_of}
 use Rattle.mg_engine_meaning.specs.Freeing.{sessions_end}
 use Rattle.mg_engine_meaning.specs.Leaving.{follows_end, given_same, seen_still, still_active}
 use Rattle.mg_engine_meaning.specs.RollbackEnds.{none_by_dead}
-use Rattle.mg_engine_meaning.specs.Falling.{Falls}
+use Rattle.mg_engine_meaning.specs.Falling.{Falls, all_but}
 use Rattle.mg_engine_meaning.specs.FrameLaws.{apart_from, commits_of, keeps_of, quiet_of, tables_of}
 use Rattle.mg_engine_meaning.specs.KeptLaws.{kept_without_work}
 use Rattle.mg_engine_meaning.specs.LawfulLaws.{memory_of, quiet_count, quiet_event}
@@ -42,9 +50,8 @@ use Rattle.mg_engine_changes.specs.GivenUp.{GivesUp}
 use Rattle.mg_engine_changes.specs.TakingSteps.{StandsMidway}
 use Rattle.mg_engine_changes.specs.ToTake.{since_point}
 use Rattle.mg_engine_steps.specs.Midway.{GoesBack}
-use Rattle.mg_engine_steps.specs.Again.{rolling}
+use Rattle.mg_engine_steps.specs.Again.{again, rolling}
 use Rattle.mg_image.specs.Form.{Pages, packed_form}
-use Rattle.mg_image.specs.Inventory.{header_of}
 use Rattle.mg_image.specs.Sound.{IsSoundBy}
 use Rattle.mg_image.specs.Tables.{Stand, stands_of}
 use Rattle.mg_image_overlays.specs.KeptImages.{AreFrontStands}
@@ -205,7 +212,7 @@ module _ {D P : Type 0} (m : Meaning D) (places : Places P) (known : KnownOfBack
     begins_so = begins m known old begun t point undo core has_begun o h stands shows
 
     abbrev image : Image
-    image = some.taken.image
+    image = some.image
 
     may_begin : MayBegin o
     may_begin = opening m known old begun t point undo core has_begun o h stands shows
@@ -279,9 +286,17 @@ module _ {D P : Type 0} (m : Meaning D) (places : Places P) (known : KnownOfBack
     same_shown : shown stopped.store.dirty image ≡ shown stops.at.store.dirty image
     same_shown = ap (λ (d : DirtyPages). shown d image) keeps.dirty
 
-    lists_now : KeepsLists size s (shown old.store.dirty shows.image) (shown stopped.store.dirty image)
-    lists_now = subst (λ (x : Pages). KeepsLists size s (shown old.store.dirty shows.image) x) (sym same_shown)
-        (keeps_lists m known old begun stopped t point undo refusal core has_begun stops o h stands)
+    -- the pages of transactions, and plain tables, after the keys and after the rows
+    lists_mid : KeepsLists size s (shown old.store.dirty shows.image) (shown some.mid.store.dirty some.taken.image)
+    lists_mid = keeps_lists m known old begun stopped t point undo refusal core has_begun stops o h stands
+
+    lists_now : KeepsLists size s (shown some.mid.store.dirty some.taken.image) (shown stopped.store.dirty image)
+    lists_now = subst (λ (x : Pages). KeepsLists size s (shown some.mid.store.dirty some.taken.image) x) (sym same_shown)
+        some.lost.lists
+
+    tips_mid : HasTips old.list size (shown some.mid.store.dirty some.taken.image)
+    tips_mid = known.lists old.list old.list size (shown old.store.dirty shows.image)
+        (shown some.mid.store.dirty some.taken.image) refl refl lists_mid.tips.next lists_mid.tips.tips shows.tips
 
     shows_now : ShowsIt m now o (rolling t.0 ∷ entry (back_event t point) (No refusal) ∷ h) s_now
     shows_now = record {
@@ -292,19 +307,18 @@ module _ {D P : Type 0} (m : Meaning D) (places : Places P) (known : KnownOfBack
       lasts = all.1;
       tips = subst (λ (n : ℕ). HasTips new.list n (shown stopped.store.dirty image))
           (sym its_end.size)
-          (known.lists old.list new.list size (shown old.store.dirty shows.image) (shown stopped.store.dirty image)
-          ends_now.size pages_now lists_now.tips.next lists_now.tips.tips shows.tips);
-      catalog = subst (λ (x : Pages). old.catalog.pointer.0 ≡ (header_of x).catalog.0) (sym same_shown)
-          some.taken.catalog;
+          (known.lists old.list new.list size (shown some.mid.store.dirty some.taken.image)
+          (shown stopped.store.dirty image) ends_now.size pages_now lists_now.tips.next lists_now.tips.tips tips_mid);
+      catalog = some.taken.catalog ∙ sym lists_now.tips.catalog;
       plain_tables = subst (λ (n : ℕ). HasPlainTables n (said new.list) (shown stopped.store.dirty image))
           (sym its_end.size)
           (none_by_dead size (said old.list) (said new.list) (shown stopped.store.dirty image) t.0 has_begun.continues.1
-          ends_now.here ends_now.others (lists_now.plain shows.plain_tables));
+          ends_now.here ends_now.others (lists_now.plain (lists_mid.plain shows.plain_tables)));
     }
 
     abbrev stands_now : StandsFor m now o (rolling t.0 ∷ entry (back_event t point) (No refusal) ∷ h)
     stands_now = record {
-      tells = (tells_on m stops.at.store stopped.store image keeps some.taken.knows.tells).told;
+      tells = (tells_on m stops.at.store stopped.store image keeps some.lost.knows.tells).told;
       grows = record { limbo = stands.grows.limbo; entries = (refl, (refl, stands.grows.entries)) };
       bases = stands.bases;
       numbers = stands.numbers;
@@ -349,25 +363,52 @@ module _ {D P : Type 0} (m : Meaning D) (places : Places P) (known : KnownOfBack
           (shown old.store.dirty shows.image) shows.stands.shows.layout at_first.pages.layout
           shows.stands.shows.reading at_first.pages.reading shows.stands.shows.sound
           at_first.pages.sound).0))
-          (known.keep_pages size o h e point s old.store old.store stops.at.store
-          (shown old.store.dirty shows.image) shows.stands.shows shows.image image
+          (known.keep_pages size o h e point s old.store old.store some.mid.store
+          (shown old.store.dirty shows.image) shows.stands.shows shows.image some.taken.image
           (asked_in (with_work t.0 unasked old.works)) (sessions_in old.works) t.0 whole whole some.taken.rest
           some.keys may_begin shows.stands.legal shows.stands.memory goes_back some.taken.steps
           at_first some.taken.midway)
 
-      is_shown : IsShown all.0.shows.layout table
-      is_shown = seen_is_shown all.0.shows.layout table
-          ((all.0.shows.tables u (ends_now.others u ne ∙ said_so)).seen table.name table seen)
+      -- with the transaction dead, after the keys
+      states : left_state (all_but t.0) (said old.list) ≡ left_state everyone (said new.list)
+      states = states_now o h (entry (back_event t point) (No refusal)) (rolling t.0) t.0 s s_mid s_now gives
+
+      dead_mid : IsKept packed_form size o (again t.0 some.taken.rest (e ∷ h)) (left_state (all_but t.0) (said old.list))
+          (shown some.mid.store.dirty some.taken.image) (shown some.mid.store.dirty some.taken.image)
+      dead_mid = pool_is_kept packed_form D FireLinks size o (again t.0 some.taken.rest (e ∷ h)) (said old.list)
+          (asked_in (with_work t.0 unasked old.works)) (sessions_in old.works) some.mid.store some.taken.image
+          (all_but t.0) some.taken.midway.cache.kept
+
+      sound_now : IsSoundBy packed_form size (left_state (all_but t.0) (said old.list)) (shown stops.at.store.dirty image)
+          all.0.shows.layout all.0.shows.reading
+      sound_now = subst (λ (x : ℕ → TxState). IsSoundBy packed_form size x (shown stops.at.store.dirty image)
+          all.0.shows.layout all.0.shows.reading) (sym states)
+          (subst (λ (x : Pages). IsSoundBy packed_form size (left_state everyone (said new.list)) x all.0.shows.layout
+          all.0.shows.reading) same_shown all.0.shows.sound)
+
+      same_layout : dead_mid.layout ≡ all.0.shows.layout
+      same_layout = (some.lost.loses dead_mid.layout all.0.shows.layout dead_mid.reading all.0.shows.reading dead_mid.sound
+          sound_now).0
+
+      is_shown : IsShown dead_mid.layout table
+      is_shown = subst (λ (l : Layout). IsShown l table) (sym same_layout) (seen_is_shown all.0.shows.layout table
+          ((all.0.shows.tables u (ends_now.others u ne ∙ said_so)).seen table.name table seen))
+
+      not_taken : takes_version (said new.list) s_now.live u t.0 ≡ false
+      not_taken = beside.takes t.0 ∙ rw (ne_eqb t.0 u (λ same. ne (sym same)), has_begun.continues.1) refl
 
       walk_on : (after : Option WalkPlace) (rows : KeyedRows)
           → AreToCome size s (shown old.store.dirty shows.image) u table after rows
           → AreToCome size s_now (shown stopped.store.dirty image) u table after rows
       walk_on after rows next = subst (λ (x : Pages). AreToCome size s_now x u table after rows) (sym same_shown)
+          (walks_past size (said old.list) s_now t.0 u (shown some.mid.store.dirty some.taken.image)
+          (shown stops.at.store.dirty image) all.0.shows.layout all.0.shows.reading sound_now states some.lost.loses
+          not_taken table after rows
           (known.walks size o h e t.0 u whole some.taken.rest s s_now (shown old.store.dirty shows.image)
-          (shown stops.at.store.dirty image) shows.stands.shows some.taken.midway.pages beside fronts falls
-          all.0.shows.layout all.0.shows.reading
-          (subst (λ (x : Pages). IsSoundBy packed_form size (left_state everyone (said new.list)) x all.0.shows.layout
-          all.0.shows.reading) same_shown all.0.shows.sound) table is_shown after rows next)
+          (shown some.mid.store.dirty some.taken.image) shows.stands.shows some.taken.midway.pages beside fronts falls
+          dead_mid.layout dead_mid.reading
+          (subst (λ (x : ℕ → TxState). IsSoundBy packed_form size x (shown some.mid.store.dirty some.taken.image)
+          dead_mid.layout dead_mid.reading) states dead_mid.sound) table is_shown after rows next))
 
       next_on : (after : Option WalkPlace) (rows : KeyedRows)
           → AreNext m old (standing_of old stands.numbers stands.tables) u table after rows None

@@ -102,8 +102,8 @@ module _ {D P : Type 0} (m : Meaning D) (known : KnownOfBacks D P m) (old begun 
         (sessions_in old.works)
     begins_so = begins m known old begun t point undo core has_begun o h stands shows
 
-    pub keeps_lists : KeepsLists size s pages (shown stops.at.store.dirty some.taken.image)
-    keeps_lists = known.keep_lists size o h e point s old.store old.store stops.at.store pages shows.stands.shows
+    pub keeps_lists : KeepsLists size s pages (shown some.mid.store.dirty some.taken.image)
+    keeps_lists = known.keep_lists size o h e point s old.store old.store some.mid.store pages shows.stands.shows
         shows.image some.taken.image (asked_in (with_work t.0 unasked old.works)) (sessions_in old.works) t.0 whole whole
         some.taken.rest some.keys (opening m known old begun t point undo core has_begun o h stands shows)
         shows.stands.legal shows.stands.memory (goes m known old begun t point undo core has_begun o h stands shows)
@@ -112,25 +112,36 @@ module _ {D P : Type 0} (m : Meaning D) (known : KnownOfBacks D P m) (old begun 
     -- ---- pages were read then
 
     module _ (ready : Pool D FireLinks) (keeps : KeepsStore m stops.at.store ready) where
-      pub ends_over : EndsOver m old.store ready some.taken.image
+      pub ends_over : EndsOver m old.store ready some.image
       ends_over = record {
         pool = keeps.pool;
-        held = (tells_on m stops.at.store ready some.taken.image keeps some.taken.knows.tells).held;
-        size = ap (λ (g : Geometry). g.size) keeps.geometry ∙ some.taken.knows.size_is;
+        held = (tells_on m stops.at.store ready some.image keeps some.lost.knows.tells).held;
+        size = ap (λ (g : Geometry). g.size) keeps.geometry ∙ some.lost.size_is;
       }
 
-      pub stops_reading : StopsReading m o h e point t.0 s old.store ready shows.image some.taken.image
+      pub stops_reading : StopsReading m o h e point t.0 s old.store ready shows.image some.image
           (asked_in (with_work t.0 unasked old.works)) (sessions_in old.works) begins_so
       stops_reading = record {
         keys = some.keys;
         rest = some.taken.rest;
-        at = stops.at.store;
+        mid = some.mid.store;
+        between = some.taken.image;
         takes = some.taken.steps;
-        ends = record {
+        mid_ends = record {
           pool = some.taken.knows.pool_is;
           held = some.taken.knows.tells.held;
           size = some.taken.knows.size_is;
         };
-        tells = some.taken.knows.tells.told;
+        at = stops.at.store;
+        left = some.lost.left;
+        cache = some.lost.cache;
+        loses = some.lost.loses;
+        next = some.lost.lists.tips.next;
+        ends = record {
+          pool = some.lost.knows.pool_is;
+          held = some.lost.knows.tells.held;
+          size = some.lost.size_is;
+        };
+        tells = some.lost.knows.tells.told;
         keeps = keeps;
       }

@@ -42,39 +42,49 @@ use Rattle.mg_value.specs.declared.value.Value.{Value}
 -- ---- pages were read
 
 module _ {D L : Type 0} (m : Meaning D) (reads : ReadsLast D L m packed_form) (size : ℕ) (o : Opening) (h : Entries)
-    (e : Entry) (point : Point) (s : Standing) (start before ready : Pool D L) (begun : Pages)
-    (first : ShowsHistory packed_form size o h s begun) (i : Image) (asked : Asked) (session : Sessions) (t : ℕ)
-    (whole left : List Change) (opening : MayBegin o) (legal : IsLegal o h) (goes : GoesBack o h e point s asked t)
-    (keeps : KeepsStore m before ready) (tells : m.tells before.disk ≡ true) (page_size : before.dirty.size ≡ size)
-    (midway : StandsMidway m size o h e t whole left s start before begun first i asked session) where
+    (e : Entry) (point : Point) (s : Standing) (start before ready : Pool D L) (i : Image) (asked : Asked)
+    (session : Sessions) (t : ℕ) (left : List Change) (opening : MayBegin o) (legal : IsLegal o h)
+    (goes : GoesBack o h e point s asked t) (keeps : KeepsStore m before ready) (tells : m.tells before.disk ≡ true)
+    (page_size : before.dirty.size ≡ size)
+    (midway : IsMidway m packed_form size o h e t left s start before i asked session) where
   both : LastsOn m packed_form o (rolling t ∷ h) ready asked session
       × LeavesSince m before.disk ready.disk (HoldsAcknowledged packed_form before.dirty.size o (rolling t ∷ h))
-  both = reads o (rolling t ∷ h) before ready asked session opening (goes.ends, legal) tells keeps midway.cache.lasts
+  both = reads o (rolling t ∷ h) before ready asked session opening (goes.ends, legal) tells keeps midway.lasts
 
   as_was : (c : Image) → HoldsAcknowledged packed_form before.dirty.size o (rolling t ∷ h) c
       → HoldsAcknowledged packed_form size o h c
   as_was c holds = subst (λ (n : ℕ). HoldsAcknowledged packed_form n o h c) page_size
       (holds_back packed_form before.dirty.size o h t c holds)
 
-  pub read_midway : StandsMidway m size o h e t whole left s start ready begun first i asked session
-  read_midway = record {
-    cache = record {
-      kept = subst (λ (d : DirtyPages). KeptIn packed_form size o (again t left (e ∷ h)) s.state asked session
-          (record ready { dirty = d }) i) (sym keeps.dirty)
-          (subst (λ (g : PageGraph). KeptIn packed_form size o (again t left (e ∷ h)) s.state asked session
-          (record ready { dirty = before.dirty; graph = g }) i) (sym keeps.graph) midway.cache.kept);
-      lasts = both.0;
-      leaves = record {
-        since = joined m start.disk before.disk ready.disk (HoldsAcknowledged packed_form size o h)
-            midway.cache.leaves.since
-            (leaves_as m before.disk ready.disk (HoldsAcknowledged packed_form before.dirty.size o (rolling t ∷ h))
-            (HoldsAcknowledged packed_form size o h) as_was both.1.since);
-        left = λ c may. as_was c (both.1.left c may);
-      };
+  pub read_cache : IsMidway m packed_form size o h e t left s start ready i asked session
+  read_cache = record {
+    kept = subst (λ (d : DirtyPages). KeptIn packed_form size o (again t left (e ∷ h)) s.state asked session
+        (record ready { dirty = d }) i) (sym keeps.dirty)
+        (subst (λ (g : PageGraph). KeptIn packed_form size o (again t left (e ∷ h)) s.state asked session
+        (record ready { dirty = before.dirty; graph = g }) i) (sym keeps.graph) midway.kept);
+    lasts = both.0;
+    leaves = record {
+      since = joined m start.disk before.disk ready.disk (HoldsAcknowledged packed_form size o h) midway.leaves.since
+          (leaves_as m before.disk ready.disk (HoldsAcknowledged packed_form before.dirty.size o (rolling t ∷ h))
+          (HoldsAcknowledged packed_form size o h) as_was both.1.since);
+      left = λ c may. as_was c (both.1.left c may);
     };
-    pages = subst (λ (d : DirtyPages). ShowsMidway packed_form size o h e t whole left s begun first (shown d i))
-        (sym keeps.dirty) midway.pages;
   }
+
+pub read_midway : {D L : Type 0} (m : Meaning D) → ReadsLast D L m packed_form → (size : ℕ) (o : Opening) (h : Entries)
+    (e : Entry) (point : Point) (s : Standing) (start before ready : Pool D L) (begun : Pages)
+    (first : ShowsHistory packed_form size o h s begun) (i : Image) (asked : Asked) (session : Sessions) (t : ℕ)
+    (whole left : List Change) → MayBegin o → IsLegal o h → GoesBack o h e point s asked t → KeepsStore m before ready
+    → m.tells before.disk ≡ true → before.dirty.size ≡ size
+    → StandsMidway m size o h e t whole left s start before begun first i asked session
+    → StandsMidway m size o h e t whole left s start ready begun first i asked session
+read_midway m reads size o h e point s start before ready begun first i asked session t whole left opening legal goes
+    keeps tells page_size midway = record {
+      cache = read_cache m reads size o h e point s start before ready i asked session t left opening legal goes keeps
+          tells page_size midway.cache;
+      pages = subst (λ (d : DirtyPages). ShowsMidway packed_form size o h e t whole left s begun first (shown d i))
+          (sym keeps.dirty) midway.pages;
+    }
 
 -- ---- one key
 

@@ -26,7 +26,7 @@ use Rattle.mg_image_overlays.specs.DataKept.{IsDataChanged, data_more, data_self
 use Rattle.mg_engine_changes.specs.Tips.{FirstsKeepTips, GrowthKeepsTips, KeepsTips, MovesKeepTips, PushesKeepTips, ReplacementsKeepTips, TakingOutKeepsTips}
 
 module _ (on : TipsStayOn) where
-  tips_then : (size : ℕ) (a b c : Pages) → KeepsTips size a b → KeepsTips size b c → KeepsTips size a c
+  pub tips_then : (size : ℕ) (a b c : Pages) → KeepsTips size a b → KeepsTips size b c → KeepsTips size a c
   tips_then size a b c first second = record {
     tips = on size a b c second.next first.tips second.tips;
     next = second.next ∙ first.next;

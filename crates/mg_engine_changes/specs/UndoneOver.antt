@@ -10,7 +10,9 @@ use Rattle.mg_engine_changes.specs.Chains.{HasTaken, keys_taken}
 use Rattle.mg_engine_changes.specs.EngineOver.{EnginesGoOver, IsBackEntry, OthersWalkOver}
 use Rattle.mg_engine_changes.specs.OverEvents.{back_over}
 use Rattle.mg_table_takings.specs.Keys.{others_of}
-use Rattle.mg_table_takings.specs.Takings.{TakesBoth, TakesTablesTo, works_left}
+use Rattle.mg_table_takings.specs.Takings.{TakesBoth, TakesTables, TakesTablesTo, no_table, one_table, works_left}
+use Rattle.mg_table_unmaking.specs.Tables.{keys_without}
+use Rattle.mg_value.specs.declared.value.Value.{Value}
 use Rattle.mg_engine_changes.specs.Outcomes.{back_event}
 use Rattle.mg_engine_meaning.specs.FrameLaws.{apart_from, commits_of, keeps_of, kept_all, quiet_of, sessions_of, tables_of, works_with}
 use Rattle.mg_engine_meaning.specs.Frames.{GivesEvent, WorksStay}
@@ -36,6 +38,17 @@ use Rattle.mg_undo.specs.Machine.{NotesDeeds, going_to}
 use Rattle.mg_txlist.specs.TxList.{said}
 use Rattle.mg_works.specs.Works.{Working, given_by, given_to, unasked, with_undo, with_work, without_tables, without_written}
 
+-- the rows of table after table
+tables_on : {D : Type 0} (m : Meaning D) (t : ℕ) (keys : List Value) (begun old new : Core D) → HasTaken m begun old
+    → TakesTables m t keys old new → HasTaken m begun new
+tables_on {D} m t keys begun old new taken (no_table core) = taken
+tables_on {D} m t all begun old new taken (one_table key keys first mid end takes more) =
+    tables_on m t (keys_without key (key ∷ keys)) begun mid end (record {
+      on = on_then m begun.store first.store mid.store taken.on (own_on m first.store mid.store _ takes.takes);
+      pool = takes.takes.changed.pool;
+      same = takes.same ∙ ap (λ (c : Core D). record c { store = mid.store }) taken.same;
+    }) more
+
 module _ {D P : Type 0} (m : Meaning D) (places : Places P) (notes : NotesDeeds) (goes_over : EnginesGoOver D m)
     (walk_over : OthersWalkOver D m) (old new : Core D) (t : TxNo) (point : Point) (core : IsCore m old)
     (takes : TakesTablesTo m old new t.0 point) where
@@ -59,15 +72,13 @@ module _ {D P : Type 0} (m : Meaning D) (places : Places P) (notes : NotesDeeds)
   others = keys_taken m t.0 (record old { waits = takes.begun.waits; works = with_work t.0 unasked old.works }) both.mid
       (others_of old.catalog.pointer.0 both.others.given) takes.has_begun.continues.0 core.pool both.others.takes
 
-  -- the batch with the rows
+  -- the batches with the rows
   taken : HasTaken m (record old { waits = takes.begun.waits; works = with_work t.0 unasked old.works })
       takes.takes.taken
-  taken = record {
-    on = on_then m old.store both.mid.store takes.takes.taken.store others.on
-        (own_on m both.mid.store takes.takes.taken.store _ both.rows.takes);
-    pool = both.rows.takes.changed.pool;
-    same = both.rows.same ∙ ap (λ (c : Core D). record c { store = takes.takes.taken.store }) others.same;
-  }
+  taken = tables_on m t.0 takes.takes.keys (record old {
+    waits = takes.begun.waits;
+    works = with_work t.0 unasked old.works;
+  }) both.mid takes.takes.taken others both.rows
 
   pub new_is : new ≡ record old {
     waits = takes.begun.waits;

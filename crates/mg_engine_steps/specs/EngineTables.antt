@@ -7,41 +7,23 @@ use Rattle.mg_engine_steps.specs.Following.{FollowsEntry}
 use Rattle.mg_engine_steps.specs.GoesOn.{HasGoneOn}
 use Rattle.mg_engine_steps.specs.Standing.{Standing, Stands}
 use Rattle.mg_engine_steps.specs.Again.{AreTaken}
-use Rattle.mg_engine_steps.specs.Knowing.{WasChanged}
 use Rattle.mg_engine_steps.specs.Midway.{GoesBack, IsMidway}
 use Rattle.mg_engine_steps.specs.Shown.{ShowsMidway}
 use Rattle.mg_grown_catalogs.specs.Grown.{CatalogGrows}
-use Rattle.mg_image.specs.Catalog.{catalog_table}
 use Rattle.mg_image.specs.Form.{packed_form}
-use Rattle.mg_image.specs.Inventory.{header_of}
 use Rattle.mg_model.specs.History.{Entries, Entry}
 use Rattle.mg_model.specs.Legal.{IsLawful}
 use Rattle.mg_model.specs.declared.change.Change.{Change}
 use Rattle.mg_model.specs.declared.change.Point.{Point}
 use Rattle.mg_model.specs.declared.opening.Opening.{Opening}
 use Rattle.mg_model.specs.declared.table.Table.{Table}
-use Rattle.mg_pool.specs.Batch.{Changed}
 use Rattle.mg_pool.specs.Pool.{IsPool, shown}
 use Rattle.mg_pool.specs.declared.pool.Pool.{Pool}
 use Rattle.mg_pool_overlays.specs.Needs.{Asked, Sessions}
-use Rattle.mg_ties.specs.Changed.{fresh}
-use Rattle.mg_table_unmaking.specs.Rows.{TakesRows}
-use Rattle.mg_engine_steps.specs.TablesBack.{AreRowsLeft}
+use Rattle.mg_engine_steps.specs.TablesBack.{AreRowsLeft, TakesEachTable}
 
--- The rows of the catalog that were left to take back are taken out in a batch, and it was changed: the cache then, over a
--- disk that tells its image.
-pub record TakesTheRows {D L : Type 0} (m : Meaning D) (s : Standing) (t : ℕ) (keys : List Value)
-    (before after : Pool D L) (i j : Image) : Type 0 where
-  pub table : Table
-  pub catalog : catalog_table (header_of (shown before.dirty i)).catalog.0 ≡ table
-  pub batch : Changed
-  pub takes : TakesRows before i s.state s.live t table keys fresh batch
-  pub was : WasChanged m before after i j batch
-  pub pool : IsPool m after
-  pub held : m.held after.disk ≡ Some j
-  pub size_is : after.geometry.size ≡ before.geometry.size
-
--- so the engine stands for the history with the entry
+-- Once the rows of all its tables are taken out, those of each table in a batch of their own, the engine stands for the history
+-- with the entry.
 abbrev pub EnginesTakeTables : (D L : Type 0) → Meaning D → Type 0
 EnginesTakeTables D L m = (o : Opening) (h : Entries) (e : Entry) (point : Point) (s new : Standing)
     (start before after : Pool D L) (k i j : Image) (asked : Asked) (session : Sessions) (t : ℕ)
@@ -53,5 +35,6 @@ EnginesTakeTables D L m = (o : Opening) (h : Entries) (e : Entry) (point : Point
     → IsMidway m packed_form before.geometry.size o h e t left s start before i asked session
     → ShowsMidway packed_form before.geometry.size o h e t whole left s (shown start.dirty k) stands.shows
     (shown before.dirty i)
-    → TakesTheRows m s t keys before after i j
+    → TakesEachTable m s t keys before after i j → IsPool m after → m.held after.disk ≡ Some j
+    → after.geometry.size ≡ before.geometry.size
     → HasGoneOn m packed_form before.geometry.size o h e new start after j asked session

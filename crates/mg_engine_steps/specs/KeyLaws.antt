@@ -22,7 +22,7 @@ use Rattle.std.specs.Cmp.Lexicographic.{same_text}
 use Rattle.mg_image.specs.Records as records
 
 -- what is found in the first of two lists is found in both
-newest_first : (cs rest : List Change) (name : List ℕ) (key : Value) (c : records.Change)
+pub newest_first : (cs rest : List Change) (name : List ℕ) (key : Value) (c : records.Change)
     → newest_at cs name key ≡ Some c → newest_at (cs ++ rest) name key ≡ Some c
 newest_first [] rest name key c is = absurd cc
 newest_first (d ∷ ds) rest name key c is = at (is_at d name key) is (newest_first ds rest name key c)

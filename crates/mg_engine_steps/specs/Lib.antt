@@ -20,6 +20,8 @@ pub mod Claims
 pub mod CommitLaws
 pub mod Commits
 pub mod DeadLaws
+pub mod DeadRows
+pub mod DeadRowsLaws
 pub mod DrawnLists
 pub mod DrawnPages
 pub mod Ending
@@ -75,6 +77,7 @@ pub mod ReadsMoved
 pub mod ReadsOwn
 pub mod Rows
 pub mod RowsLaws
+pub mod RowsLeft
 pub mod RowsTaken
 pub mod RowsTakenLaws
 pub mod SameRecords

@@ -13,11 +13,11 @@ use Rattle.mg_model.specs.Catalog.{catalog_name}
 use Rattle.mg_model.specs.Changes.{same_key}
 use Rattle.mg_model.specs.History.{Entries}
 use Rattle.mg_model.specs.Machine.{own}
-use Rattle.mg_image.specs.Form.{Form}
+use Rattle.mg_image.specs.Form.{Form, Pages}
 use Rattle.mg_image.specs.declared.entry.Entry.{Entry}
 use Rattle.mg_image.specs.Records.{Reading, record_key, writer}
 use Rattle.mg_image.specs.Sound.{IsSoundBy, facts_by}
-use Rattle.mg_image.specs.Tables.{Layout, stands_of, table_at}
+use Rattle.mg_image.specs.Tables.{Layout, has, stands_of, table_at}
 use Rattle.mg_image_overlays.specs.KeptImages.{IsKept}
 use Rattle.mg_overlays.specs.Overlays.{left_state, without}
 use Rattle.mg_pool.specs.Batch.{Changed}
@@ -26,6 +26,7 @@ use Rattle.mg_pool.specs.declared.pool.Pool.{Pool}
 use Rattle.mg_pool_overlays.specs.Needs.{Asked, Sessions}
 use Rattle.mg_space.specs.View.{viewed}
 use Rattle.mg_ties.specs.Changed.{ChangesFresh, KeptIn, fresh}
+use Rattle.mg_engine_steps.specs.CatalogPages.{ChangesCatalogPages}
 use Rattle.mg_engine_steps.specs.Taken.{IsWithout, LeavesTables, TakesRows}
 use Rattle.mg_engine_steps.specs.Whole.{GoWhole}
 
@@ -115,16 +116,34 @@ AreRowsOut form store image state by old new (takes a mid c rec table out its pl
 AreRowsOut form store image state by old new (takes a mid c rec table out its placed more) (key ∷ keys) =
     IsRowOut form store image state by a mid rec table out key × AreRowsOut form store image state by mid c more keys
 
--- So the batch leaves and takes what the law of a batch wants, where whole tables go.
+-- ---- what is read, with the writer dead
+
+-- The records of the catalog with these keys have gone, each other record reads as it did.
+pub record ReadsWithout (by : ℕ) (keys : List Value) (d : Layout) (r rc : Reading) : Type 0 where
+  pub each : (p : RecId) → (rc p ≡ r p)
+      ⊎ (GoesWhole by (r p) (rc p) × (is_among keys (record_key d.catalog.table (r p)) ≡ true))
+  pub whole : (key : Value) → is_among keys key ≡ true → (p : RecId) × (has d.catalog.data_pages p.page.0 ≡ true)
+      × (record_key d.catalog.table (r p) ≡ key) × GoesWhole by (r p) (rc p)
+
+-- Rows of the catalog go from some pages to others, in one batch or in several: whichever choice is made without the writer,
+-- the pages keep their layout, change on data pages of the catalog alone, and are read without these rows.
+abbrev pub RowsGone : Form → ℕ → Opening → Entries → (ℕ → TxState) → ℕ → List Value → Pages → Pages → Type 0
+RowsGone form size o h state by keys old new = (chosen : ℕ → Bool) → chosen by ≡ false
+    → (start : IsKept form size o h (left_state chosen state) old old) → (c : Layout) (rc : Reading)
+    → IsSoundBy form size (left_state chosen state) new c rc
+    → (start.of_pool ≡ c) × ReadsWithout by keys start.of_pool start.in_pool rc
+    × ChangesCatalogPages size old new start.of_pool
+
+-- So the pages leave and take what the law of a batch wants, where whole tables go.
 abbrev pub OutsThere : Form → (D L : Type 0) → Type 0
 OutsThere form D L = (store : Pool D L) (image : Image) (o : Opening) (h : Entries) (state : ℕ → TxState) (by : ℕ)
-    (keys : List Value) (batch : Changed) (outs : TakesRecordsOut form store image state by fresh batch) (asked : Asked)
-    (session : Sessions) → state by ≡ Active → AreRowsOut form store image state by fresh batch outs keys
+    (keys : List Value) (new : Pages) (asked : Asked) (session : Sessions) → state by ≡ Active
+    → RowsGone form store.geometry.size o h state by keys (shown store.dirty image) new
     → GoWhole (own o h by) (is_among keys) → KeptIn form store.geometry.size o h state asked session store image
     → (chosen : ℕ → Bool) → chosen by ≡ true
     → (was : IsKept form store.geometry.size o h (left_state chosen state) (shown store.dirty image)
     (shown store.dirty image)) → (c : Layout) (rc : Reading)
-    → IsSoundBy form store.geometry.size (left_state (without by chosen) state) (viewed store image batch) c rc
-    → LeavesTables store.geometry.size (shown store.dirty image) (viewed store image batch) was.layout c
+    → IsSoundBy form store.geometry.size (left_state (without by chosen) state) new c rc
+    → LeavesTables store.geometry.size (shown store.dirty image) new was.layout c
     × TakesRows by was.layout (facts_by (left_state chosen state) (shown store.dirty image) was.layout) was.reading rc
     (is_among keys)

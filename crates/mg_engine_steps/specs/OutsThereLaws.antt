@@ -46,7 +46,7 @@ use Rattle.mg_image_overlays.specs.Growing.{IsTableOf}
 use Rattle.mg_image_overlays.specs.OneChain.{same_stand}
 use Rattle.mg_image_overlays.specs.OneLayout.{sound_once}
 use Rattle.mg_engine_steps.specs.CatalogPages.{ChangesCatalogPages, catalog_page_named, changes_join, changes_none}
-use Rattle.mg_engine_steps.specs.Outs.{AreFirst, AreRowsOut, GoesWhole, OutsThere, TakesRecordsOut, is_among, none_out, takes}
+use Rattle.mg_engine_steps.specs.Outs.{AreFirst, AreRowsOut, GoesWhole, OutsThere, ReadsWithout, RowsGone, TakesRecordsOut, is_among, none_out, takes}
 use Rattle.mg_engine_steps.specs.OutsLaws.{out_pages, out_there, out_whole, outs_back}
 use Rattle.mg_engine_steps.specs.Taken.{HasGone, IsLeft, LeavesTables, TakesRows}
 use Rattle.mg_engine_steps.specs.TakenNames.{catalog_page}
@@ -58,7 +58,7 @@ use Rattle.mg_engine_steps.specs.WholeLaws.{gone_are_whole}
 among_here : (k : Value) (keys : List Value) (key : Value) → same_key k key ≡ true → is_among (k ∷ keys) key ≡ true
 among_here k keys key is = rw is refl
 
-same_itself : (key : Value) → same_key key key ≡ true
+pub same_itself : (key : Value) → same_key key key ≡ true
 same_itself key = ap is_eq (tied_itself value_cmp_total key)
 
 among_more : (k : Value) (keys : List Value) (key : Value) → is_among keys key ≡ true → is_among (k ∷ keys) key ≡ true
@@ -85,13 +85,6 @@ rows_are_first form store image state by old new (takes a mid c rec table out it
     (are.0.first, rows_are_first form store image state by mid c more keys are.1)
 
 -- ---- what is read, with the writer dead
-
--- The records of the catalog with these keys have gone, each other record reads as it did.
-pub record ReadsWithout (by : ℕ) (keys : List Value) (d : Layout) (r rc : Reading) : Type 0 where
-  pub each : (p : RecId) → (rc p ≡ r p)
-      ⊎ (GoesWhole by (r p) (rc p) × (is_among keys (record_key d.catalog.table (r p)) ≡ true))
-  pub whole : (key : Value) → is_among keys key ≡ true → (p : RecId) × (has d.catalog.data_pages p.page.0 ≡ true)
-      × (record_key d.catalog.table (r p) ≡ key) × GoesWhole by (r p) (rc p)
 
 module _ (form : Form) (one : RowsAreOne form.coding) (none : HasNoSequences form)
     (no_primary : form.in_primary ≡ false) {D L : Type 0} (store : Pool D L) (image : Image) (state : ℕ → TxState)
@@ -227,6 +220,140 @@ module _ (form : Form) (one : RowsAreOne form.coding) (none : HasNoSequences for
                     subst (λ (es : List Entry). GoesWhole by es (rc p)) (step.2 p ne) goes_,
                   )
 
+-- ---- rows that go
+
+-- a batch of such rows
+pub batch_gone : (form : Form) → RowsAreOne form.coding → HasNoSequences form → form.in_primary ≡ false → {D L : Type 0}
+    → (store : Pool D L) (image : Image) (o : Opening) (h : Entries) (state : ℕ → TxState) (by : ℕ) (keys : List Value)
+    (batch : Changed) (outs : TakesRecordsOut form store image state by fresh batch) → state by ≡ Active
+    → AreRowsOut form store image state by fresh batch outs keys
+    → RowsGone form store.geometry.size o h state by keys (shown store.dirty image) (viewed store image batch)
+batch_gone form one none no_primary store image o h state by keys batch outs active are chosen off start c rc sound =
+    rows_go form one none no_primary store image state by o h (content_in batch.pages) (lists batch.orders) chosen off
+    dead fresh batch outs keys are (within_self batch) start c rc sound
+  where
+    dead : left_state chosen state by ≡ Dead
+    dead = rw (off, active) refl
+
+-- no batch at all
+pub none_gone : (form : Form) → RowsAreOne form.coding → HasNoSequences form → (size : ℕ) (o : Opening) (h : Entries)
+    (state : ℕ → TxState) (by : ℕ) (pages : Pages) → RowsGone form size o h state by [] pages pages
+none_gone form one none size o h state by pages chosen off start c rc sound = (
+  same.0,
+  record { each = λ p. inl (ap (λ (s : Reading). s p) (sym same.1)); whole = λ key is. absurd (never is) },
+  changes_none size pages start.of_pool,
+)
+  where
+    same : (start.of_pool ≡ c) × (start.in_pool ≡ rc)
+    same = sound_once form one none size (left_state chosen state) pages start.of_pool c start.in_pool rc
+        start.pool_sound sound
+
+    never : false ≡ true → ⊥
+    never is = cc
+
+-- records that go in turn
+module _ (by : ℕ) (its others keys : List Value)
+    (both : (key : Value) → is_among keys key ≡ (is_among its key || is_among others key)) (d : Layout)
+    (r mid rc : Reading) (first : ReadsWithout by its d r mid) (then_ : ReadsWithout by others d mid rc) where
+  in_first : (key : Value) → is_among its key ≡ true → is_among keys key ≡ true
+  in_first key is = both key ∙ rw is refl
+
+  in_later : (key : Value) → is_among others key ≡ true → is_among keys key ≡ true
+  in_later key is = both key ∙ (ap (λ (b : Bool). is_among its key || b) is ∙ or_true (is_among its key))
+    where
+      or_true : (b : Bool) → (b || true) ≡ true
+      or_true true = refl
+      or_true false = refl
+
+  cases : (key : Value) → is_among keys key ≡ true → (is_among its key ≡ true) ⊎ (is_among others key ≡ true)
+  cases key is = at (is_among its key) refl (sym (both key) ∙ is)
+    where
+      at : (b : Bool) → is_among its key ≡ b → (b || is_among others key) ≡ true
+          → (is_among its key ≡ true) ⊎ (is_among others key ≡ true)
+      at true on is_ = inl on
+      at false off is_ = inr is_
+
+  -- what has gone stays so, and goes once
+  first_stays : (p : RecId) → GoesWhole by (r p) (mid p) → GoesWhole by (r p) (rc p)
+  first_stays p went = at (then_.each p)
+    where
+      at : (rc p ≡ mid p) ⊎ (GoesWhole by (mid p) (rc p) × (is_among others (record_key d.catalog.table (mid p)) ≡ true))
+          → GoesWhole by (r p) (rc p)
+      at (inl same) = record {
+        version = went.version;
+        alone = went.alone;
+        its = went.its;
+        none = same ∙ went.none;
+      }
+      at (inr (again_, k)) = let both_ : [] ≡ again_.version ∷ [] = sym went.none ∙ again_.alone in absurd cc
+
+  later_there : (p : RecId) → GoesWhole by (mid p) (rc p) → mid p ≡ r p
+  later_there p went = at (first.each p)
+    where
+      at : (mid p ≡ r p) ⊎ (GoesWhole by (r p) (mid p) × (is_among its (record_key d.catalog.table (r p)) ≡ true))
+          → mid p ≡ r p
+      at (inl same) = same
+      at (inr (before, k)) = let both_ : [] ≡ went.version ∷ [] = sym before.none ∙ went.alone in absurd cc
+
+  later_went : (p : RecId) → GoesWhole by (mid p) (rc p) → GoesWhole by (r p) (rc p)
+  later_went p went = subst (λ (es : List Entry). GoesWhole by es (rc p)) (later_there p went) went
+
+  later_key : (p : RecId) → GoesWhole by (mid p) (rc p)
+      → record_key d.catalog.table (mid p) ≡ record_key d.catalog.table (r p)
+  later_key p went = ap (record_key d.catalog.table) (later_there p went)
+
+  each_join : (p : RecId) → (rc p ≡ r p)
+      ⊎ (GoesWhole by (r p) (rc p) × (is_among keys (record_key d.catalog.table (r p)) ≡ true))
+  each_join p = at (first.each p) (then_.each p)
+    where
+      at : (mid p ≡ r p) ⊎ (GoesWhole by (r p) (mid p) × (is_among its (record_key d.catalog.table (r p)) ≡ true))
+          → (rc p ≡ mid p) ⊎ (GoesWhole by (mid p) (rc p) × (is_among others (record_key d.catalog.table (mid p)) ≡ true))
+          → (rc p ≡ r p) ⊎ (GoesWhole by (r p) (rc p) × (is_among keys (record_key d.catalog.table (r p)) ≡ true))
+      at (inr (went, k)) also = inr (first_stays p went, in_first (record_key d.catalog.table (r p)) k)
+      at (inl same) (inl still) = inl (still ∙ same)
+      at (inl same) (inr (went, k)) = inr (
+        later_went p went,
+        in_later (record_key d.catalog.table (r p)) (sym (ap (is_among others) (later_key p went)) ∙ k),
+      )
+
+  whole_join : (key : Value) → is_among keys key ≡ true → (p : RecId) × (has d.catalog.data_pages p.page.0 ≡ true)
+      × (record_key d.catalog.table (r p) ≡ key) × GoesWhole by (r p) (rc p)
+  whole_join key is = at (cases key is)
+    where
+      at : (is_among its key ≡ true) ⊎ (is_among others key ≡ true)
+          → (p : RecId) × (has d.catalog.data_pages p.page.0 ≡ true)
+          × (record_key d.catalog.table (r p) ≡ key) × GoesWhole by (r p) (rc p)
+      at (inl here) = let (p, there, keyed, went) = first.whole key here in (p, there, keyed, first_stays p went)
+      at (inr later) = let (p, there, keyed, went) = then_.whole key later in
+          (p, there, sym (later_key p went) ∙ keyed, later_went p went)
+
+  pub reads_join : ReadsWithout by keys d r rc
+  reads_join = record { each = each_join; whole = whole_join }
+
+-- one batch after another
+pub gone_join : (form : Form) (size : ℕ) (o : Opening) (h mid_h : Entries) (state : ℕ → TxState) (by : ℕ)
+    (its others keys : List Value) (old mid new : Pages)
+    → ((key : Value) → is_among keys key ≡ (is_among its key || is_among others key))
+    → RowsGone form size o h state by its old mid → RowsGone form size o mid_h state by others mid new
+    → ((chosen : ℕ → Bool) → IsKept form size o mid_h (left_state chosen state) mid mid)
+    → RowsGone form size o h state by keys old new
+gone_join form size o h mid_h state by its others keys old mid new both first then_ kept chosen off start c rc sound = (
+  one_.0 ∙ two.0,
+  reads_join by its others keys both start.of_pool start.in_pool (kept chosen).in_pool rc one_.1
+      (subst (λ (l : Layout). ReadsWithout by others l (kept chosen).in_pool rc) (sym one_.0) two.1),
+  changes_join size old mid new start.of_pool one_.2
+      (subst (ChangesCatalogPages size mid new) (sym one_.0) two.2),
+)
+  where
+    one_ : (start.of_pool ≡ (kept chosen).of_pool)
+        × ReadsWithout by its start.of_pool start.in_pool (kept chosen).in_pool
+        × ChangesCatalogPages size old mid start.of_pool
+    one_ = first chosen off start (kept chosen).of_pool (kept chosen).in_pool (kept chosen).pool_sound
+
+    two : ((kept chosen).of_pool ≡ c) × ReadsWithout by others (kept chosen).of_pool (kept chosen).in_pool rc
+        × ChangesCatalogPages size mid new (kept chosen).of_pool
+    two = then_ chosen off (kept chosen) c rc sound
+
 -- ---- the law
 
 no_page : (form : Form) (pages : Pages) → HasNoSequences form → (ns : List ℕ)
@@ -236,24 +363,20 @@ no_page form pages none (n ∷ ns) each = absurd (none (pages n) n each.0)
 
 module _ (form : Form) (one : RowsAreOne form.coding) (none : HasNoSequences form)
     (no_primary : form.in_primary ≡ false) (D L : Type 0) (store : Pool D L) (image : Image) (o : Opening) (h : Entries)
-    (state : ℕ → TxState) (by : ℕ) (keys : List Value) (batch : Changed)
-    (outs : TakesRecordsOut form store image state by fresh batch) (asked : Asked) (session : Sessions)
-    (active : state by ≡ Active) (are : AreRowsOut form store image state by fresh batch outs keys)
+    (state : ℕ → TxState) (by : ℕ) (keys : List Value) (new : Pages) (asked : Asked) (session : Sessions)
+    (active : state by ≡ Active) (gone : RowsGone form store.geometry.size o h state by keys (shown store.dirty image) new)
     (goes : GoWhole (own o h by) (is_among keys))
     (kept : KeptIn form store.geometry.size o h state asked session store image) (chosen : ℕ → Bool)
     (on : chosen by ≡ true)
     (was : IsKept form store.geometry.size o h (left_state chosen state) (shown store.dirty image)
     (shown store.dirty image)) (c : Layout) (rc : Reading)
-    (sound : IsSoundBy form store.geometry.size (left_state (without by chosen) state) (viewed store image batch) c rc)
+    (sound : IsSoundBy form store.geometry.size (left_state (without by chosen) state) new c rc)
   where
     abbrev size : ℕ
     size = store.geometry.size
 
     abbrev old : Pages
     old = shown store.dirty image
-
-    abbrev new : Pages
-    new = viewed store image batch
 
     abbrev now : ℕ → TxState
     now = left_state chosen state
@@ -268,21 +391,17 @@ module _ (form : Form) (one : RowsAreOne form.coding) (none : HasNoSequences for
     off : without by chosen by ≡ false
     off = rw (eq-eqb by by refl) refl
 
-    dead : left_state (without by chosen) state by ≡ Dead
-    dead = (without_raises state by chosen active on).dead
-
     limbo : left_state chosen state by ≡ Limbo
     limbo = (without_raises state by chosen active on).limbo
 
     goes_ : (start.of_pool ≡ c) × ReadsWithout by keys start.of_pool start.in_pool rc
-        × ChangesCatalogPages store.geometry.size (shown store.dirty image) (viewed store image batch) start.of_pool
-    goes_ = rows_go form one none no_primary store image state by o h (content_in batch.pages) (lists batch.orders)
-        (without by chosen) off dead fresh batch outs keys are (within_self batch) start c rc sound
+        × ChangesCatalogPages store.geometry.size (shown store.dirty image) new start.of_pool
+    goes_ = gone (without by chosen) off start c rc sound
 
     reads : ReadsWithout by keys start.of_pool start.in_pool rc
     reads = goes_.1
 
-    changes : ChangesCatalogPages store.geometry.size (shown store.dirty image) (viewed store image batch) start.of_pool
+    changes : ChangesCatalogPages store.geometry.size (shown store.dirty image) new start.of_pool
     changes = goes_.2
 
     abbrev cat : Table
@@ -315,38 +434,38 @@ module _ (form : Form) (one : RowsAreOne form.coding) (none : HasNoSequences for
 
     -- ---- pages
 
-    header : viewed store image batch 0 ≡ shown store.dirty image 0
+    header : new 0 ≡ shown store.dirty image 0
     header = at (changes.each 0)
       where
         first : byte (shown store.dirty image 0) 0 ≡ 1
         first = kind_of (old 0) 0 1 0 0 _ was.sound.header.fields
 
-        at : (viewed store image batch 0 ≡ shown store.dirty image 0)
+        at : (new 0 ≡ shown store.dirty image 0)
             ⊎ ((has start.of_pool.catalog.data_pages 0 ≡ true) × (byte (shown store.dirty image 0) 0 ≡ 5))
-            → viewed store image batch 0 ≡ shown store.dirty image 0
+            → new 0 ≡ shown store.dirty image 0
         at (inl same) = same
         at (inr (there, five)) = absurd (omega (arith, first, five))
 
-    left : (m : ℕ) → has was.layout.catalog.data_pages m ≡ false → viewed store image batch m ≡ shown store.dirty image m
+    left : (m : ℕ) → has was.layout.catalog.data_pages m ≡ false → new m ≡ shown store.dirty image m
     left m out = at (changes.each m)
       where
-        at : (viewed store image batch m ≡ shown store.dirty image m)
+        at : (new m ≡ shown store.dirty image m)
             ⊎ ((has start.of_pool.catalog.data_pages m ≡ true) × (byte (shown store.dirty image m) 0 ≡ 5))
-            → viewed store image batch m ≡ shown store.dirty image m
+            → new m ≡ shown store.dirty image m
         at (inl same) = same
         at (inr (there, five)) = let both : false ≡ true = sym out ∙ (sym (one_page m) ∙ there) in absurd cc
 
-    trees : KeepsTrees (shown store.dirty image) (viewed store image batch) store.geometry.size was.layout
+    trees : KeepsTrees (shown store.dirty image) new store.geometry.size was.layout
     trees = trees_stay form size now old new was.layout was.reading was.sound (λ m is. changes.used m ∙ is)
         (λ m linked seven. at m seven (changes.each m))
       where
-        at : (m : ℕ) → byte (shown store.dirty image m) 0 ≡ 7 → (viewed store image batch m ≡ shown store.dirty image m)
+        at : (m : ℕ) → byte (shown store.dirty image m) 0 ≡ 7 → (new m ≡ shown store.dirty image m)
             ⊎ ((has start.of_pool.catalog.data_pages m ≡ true) × (byte (shown store.dirty image m) 0 ≡ 5))
-            → viewed store image batch m ≡ shown store.dirty image m
+            → new m ≡ shown store.dirty image m
         at m seven (inl same) = same
         at m seven (inr (there, five)) = absurd (omega (arith, seven, five))
 
-    leaves : LeavesTables store.geometry.size (shown store.dirty image) (viewed store image batch) was.layout c
+    leaves : LeavesTables store.geometry.size (shown store.dirty image) new was.layout c
     leaves = record {
       header = header;
       used = λ m is. changes.used m ∙ is;
@@ -433,7 +552,7 @@ module _ (form : Form) (one : RowsAreOne form.coding) (none : HasNoSequences for
         its_place p here takes_ (ap (λ (es : List Entry). is_among keys (record_key cat es)) is ∙ lost) in
         let both : e ∷ older ≡ went.version ∷ [] = sym is ∙ went.alone in cc
 
-    pub outs_leave : LeavesTables store.geometry.size (shown store.dirty image) (viewed store image batch) was.layout c
+    pub outs_leave : LeavesTables store.geometry.size (shown store.dirty image) new was.layout c
         × TakesRows by was.layout (facts_by (left_state chosen state) (shown store.dirty image) was.layout) was.reading rc
         (is_among keys)
     outs_leave = (
@@ -446,6 +565,6 @@ module _ (form : Form) (one : RowsAreOne form.coding) (none : HasNoSequences for
 
 pub outs_there : (form : Form) → RowsAreOne form.coding → HasNoSequences form → form.in_primary ≡ false → (D L : Type 0)
     → OutsThere form D L
-outs_there form one none no_primary D L store image o h state by keys batch outs asked session active are goes kept
-    chosen on was c rc sound = outs_leave form one none no_primary D L store image o h state by keys batch outs asked
-    session active are goes kept chosen on was c rc sound
+outs_there form one none no_primary D L store image o h state by keys new asked session active gone goes kept chosen on was
+    c rc sound = outs_leave form one none no_primary D L store image o h state by keys new asked session active gone goes
+    kept chosen on was c rc sound

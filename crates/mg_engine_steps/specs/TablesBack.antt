@@ -1,4 +1,5 @@
--- The rows of tables that a transaction has made go in one batch, once the changes of other tables are taken back.
+-- The rows of tables that a transaction has made go, those of each table in one batch, once the changes of other tables are
+-- taken back.
 use Rattle.std.specs.Prelude.{◌≡◌, ◌∷◌, ◌++◌, [], ℕ, Bool, true, List, None, Some, is_some}
 use Rattle.mg_base.specs.Disk.{Meaning}
 use Rattle.mg_base.specs.Image.{Image}
@@ -7,14 +8,15 @@ use Rattle.mg_value.specs.declared.value.Value.{Value}
 use Rattle.mg_engine_steps.specs.Following.{FollowsEntry}
 use Rattle.mg_engine_steps.specs.ListShows.{TipsStay}
 use Rattle.mg_engine_steps.specs.Standing.{Remembers, ShowsHistory, Standing}
-use Rattle.mg_engine_steps.specs.Again.{AreTaken}
+use Rattle.mg_engine_steps.specs.Again.{AreTaken, again, without_rows}
 use Rattle.mg_engine_steps.specs.Knowing.{WasChanged}
 use Rattle.mg_engine_steps.specs.Midway.{GoesBack, IsMidway}
 use Rattle.mg_engine_steps.specs.Shown.{ShowsMidway}
 use Rattle.mg_grown_catalogs.specs.Grown.{CatalogGrows}
 use Rattle.mg_image.specs.Form.{Pages, packed_form}
 use Rattle.mg_image.specs.Histories.{newest_at}
-use Rattle.mg_image.specs.Inventory.{next_of}
+use Rattle.mg_image.specs.Catalog.{catalog_table}
+use Rattle.mg_image.specs.Inventory.{header_of, next_of}
 use Rattle.mg_image.specs.Records.{Reading}
 use Rattle.mg_image.specs.Sound.{IsSoundBy}
 use Rattle.mg_image.specs.Tables.{Layout}
@@ -30,13 +32,15 @@ use Rattle.mg_model.specs.declared.opening.Opening.{Opening}
 use Rattle.mg_model.specs.declared.table.Table.{Table}
 use Rattle.mg_overlays.specs.Overlays.{left_state}
 use Rattle.mg_pool.specs.Batch.{Changed}
-use Rattle.mg_pool.specs.Pool.{shown}
+use Rattle.mg_pool.specs.Pool.{IsPool, shown}
 use Rattle.mg_pool.specs.declared.pool.Pool.{Pool}
 use Rattle.mg_pool_overlays.specs.Needs.{Asked, Sessions}
 use Rattle.mg_ties.specs.Changed.{fresh}
 use Rattle.mg_image_overlays.specs.Growing.{IsTableOf}
+use Rattle.mg_table_unmaking.specs.Rows.{TakesRows}
+use Rattle.mg_table_unmaking.specs.Tables.{keys_with, keys_without}
 use Rattle.mg_engine_steps.specs.LeftShown.{TakesTables}
-use Rattle.mg_engine_steps.specs.Outs.{AreRowsOut, TakesRecordsOut, is_among}
+use Rattle.mg_engine_steps.specs.Outs.{RowsGone, is_among}
 use Rattle.mg_engine_steps.specs.Whole.{GoWhole}
 
 -- What a transaction has left to take back are rows of the catalog under these keys, of whole tables; it had changed each
@@ -57,46 +61,88 @@ pub record StoodUnder (size : ℕ) (state : ℕ → TxState) (pages : Pages) (it
   pub sound : IsSoundBy packed_form size state pages layout reading
   pub of : IsTableOf layout its
 
--- What the batch has taken: the rows and their tables, and no page of transactions has changed. Whichever choice is made,
--- each table that stands then stood before.
+-- Whichever choice is made, each table that stands on later pages stood before.
+abbrev pub StoodBefore : ℕ → (ℕ → TxState) → Pages → Pages → Type 0
+StoodBefore size state pages later = (chosen : ℕ → Bool) (layout : Layout) (q : Reading)
+    → IsSoundBy packed_form size (left_state chosen state) later layout q → (its : Table) → IsTableOf layout its
+    → StoodUnder size (left_state chosen state) pages its
+
+-- What the batches have taken: the rows and their tables, and no page of transactions has changed. Each table that stands
+-- then stood before.
 pub record TakesOnPages (size : ℕ) (o : Opening) (h : Entries) (e : Entry) (t : ℕ) (left : List Change) (s : Standing)
     (a : Layout) (r : Reading) (pages later : Pages) (gone : Value → Bool) : Type 0 where
   pub tables : TakesTables packed_form size o h e t left s a r pages later gone
   pub stay : TipsStay size pages later
   pub next : next_of later ≡ next_of pages
-  pub before : (chosen : ℕ → Bool) (layout : Layout) (q : Reading)
-      → IsSoundBy packed_form size (left_state chosen s.state) later layout q → (its : Table) → IsTableOf layout its
-      → StoodUnder size (left_state chosen s.state) pages its
+  pub before : StoodBefore size s.state pages later
+
+-- ---- the batches
+
+-- The rows of a table that were left to take back are taken out in a batch, and it was changed: the cache then, over a disk
+-- that tells its image.
+pub record TakesTheRows {D L : Type 0} (m : Meaning D) (s : Standing) (t : ℕ) (keys : List Value)
+    (before after : Pool D L) (i j : Image) : Type 0 where
+  pub table : Table
+  pub catalog : catalog_table (header_of (shown before.dirty i)).catalog.0 ≡ table
+  pub batch : Changed
+  pub takes : TakesRows before i s.state s.live t table keys fresh batch
+  pub was : WasChanged m before after i j batch
+  pub pool : IsPool m after
+  pub held : m.held after.disk ≡ Some j
+  pub size_is : after.geometry.size ≡ before.geometry.size
+
+-- Table by table, those of the first key's table first.
+pub data TakesEachTable {D L : Type 0} (m : Meaning D) (s : Standing) (t : ℕ)
+    : List Value → Pool D L → Pool D L → Image → Image → Type 0 where
+  no_table : (pool : Pool D L) (i : Image) → TakesEachTable m s t [] pool pool i i
+  one_table : (key : Value) (keys : List Value) (before mid after : Pool D L) (i k j : Image)
+      → TakesTheRows m s t (keys_with key (key ∷ keys)) before mid i k
+      → TakesEachTable m s t (keys_without key (key ∷ keys)) mid after k j
+      → TakesEachTable m s t (key ∷ keys) before after i j
+
+-- ---- the laws
 
 abbrev pub TablesAreTaken : (D L : Type 0) → Meaning D → Type 0
 TablesAreTaken D L m = (o : Opening) (h : Entries) (e : Entry) (point : Point) (s : Standing)
-    (start before after : Pool D L) (i j : Image) (batch : Changed) (asked : Asked) (session : Sessions) (t : ℕ)
+    (start before after : Pool D L) (i j : Image) (asked : Asked) (session : Sessions) (t : ℕ)
     (whole left : List Change) (keys : List Value) (begun : Pages)
     (first : ShowsHistory packed_form before.geometry.size o h s begun) → MayBegin o → IsLegal o (e ∷ h)
     → CatalogGrows o h → Remembers o h s → GoesBack o h e point s asked t → AreTaken o h e t whole
     → AreRowsLeft o h e t left keys
     → IsMidway m packed_form before.geometry.size o h e t left s start before i asked session
     → (shows : ShowsMidway packed_form before.geometry.size o h e t whole left s begun first (shown before.dirty i))
-    → WasChanged m before after i j batch
-    → (outs : TakesRecordsOut packed_form before i s.state t fresh batch)
-    → AreRowsOut packed_form before i s.state t fresh batch outs keys
+    → TakesEachTable m s t keys before after i j
     → TakesOnPages before.geometry.size o h e t left s shows.layout shows.reading (shown before.dirty i)
     (shown after.dirty j) (is_among keys)
 
 -- So nothing is left to take back in any overlay, and the pages show the history that has the entry.
 abbrev pub TablesGoBack : (D L : Type 0) → Meaning D → Type 0
 TablesGoBack D L m = (o : Opening) (h : Entries) (e : Entry) (point : Point) (s : Standing)
-    (start before after : Pool D L) (i j : Image) (batch : Changed) (asked : Asked) (session : Sessions) (t : ℕ)
+    (start before after : Pool D L) (i j : Image) (asked : Asked) (session : Sessions) (t : ℕ)
     (whole left : List Change) (keys : List Value) (begun : Pages)
     (first : ShowsHistory packed_form before.geometry.size o h s begun) → MayBegin o → IsLegal o (e ∷ h)
     → CatalogGrows o h → Remembers o h s → GoesBack o h e point s asked t → AreTaken o h e t whole
     → AreRowsLeft o h e t left keys
     → IsMidway m packed_form before.geometry.size o h e t left s start before i asked session
     → ShowsMidway packed_form before.geometry.size o h e t whole left s begun first (shown before.dirty i)
-    → WasChanged m before after i j batch
-    → (outs : TakesRecordsOut packed_form before i s.state t fresh batch)
-    → AreRowsOut packed_form before i s.state t fresh batch outs keys
+    → TakesEachTable m s t keys before after i j
     → IsMidway m packed_form before.geometry.size o h e t [] s start after j asked session
     × ((new : Standing) → FollowsEntry o h e s new → new.number t ≡ s.number t
     → ((name : List ℕ) (table : Table) → new.table t name ≡ Some table → s.table t name ≡ Some table)
     → ShowsHistory packed_form before.geometry.size o (e ∷ h) new (shown after.dirty j))
+
+-- One table more: in every overlay the transaction has what is left without its rows; on the pages its rows have gone, the
+-- header is as it was, and each table that stands then stood before.
+abbrev pub TablesGoOn : (D L : Type 0) → Meaning D → Type 0
+TablesGoOn D L m = (o : Opening) (h : Entries) (e : Entry) (point : Point) (s : Standing)
+    (start before after : Pool D L) (i j : Image) (asked : Asked) (session : Sessions) (t : ℕ)
+    (left : List Change) (of : Value) (keys : List Value) → MayBegin o → IsLegal o (e ∷ h) → CatalogGrows o h
+    → Remembers o h s → GoesBack o h e point s asked t → AreRowsLeft o h e t left keys
+    → IsMidway m packed_form before.geometry.size o h e t left s start before i asked session
+    → TakesTheRows m s t (keys_with of keys) before after i j
+    → IsMidway m packed_form before.geometry.size o h e t (without_rows (keys_with of keys) left) s start after j asked
+    session
+    × RowsGone packed_form before.geometry.size o (again t left (e ∷ h)) s.state t (keys_with of keys)
+    (shown before.dirty i) (shown after.dirty j)
+    × (shown after.dirty j 0 ≡ shown before.dirty i 0)
+    × StoodBefore before.geometry.size s.state (shown before.dirty i) (shown after.dirty j)

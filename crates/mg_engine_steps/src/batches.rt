@@ -23,7 +23,7 @@ pub fn taken_tables_are_read<D: Disk, L: Links>()
     one_reading();
 }
 
-/// Such a batch leaves and takes what the law of it wants, where its keys are of whole tables.
+/// Such batches in turn leave and take what the law of one wants, where their keys are of whole tables.
 pub fn taken_tables_are_there<D: Disk, L: Links>()
     ensures { OutsThere packed_form D L }
 {

@@ -2,18 +2,17 @@
 
 ghost use Rattle.mg_engine_steps.specs.EngineTables.{EnginesTakeTables};
 
-use crate::{changes_are_taken_back, rows_are_taken, standings_go_on, tables_go_back};
+use crate::{changes_are_taken_back, standings_go_on, tables_go_back};
 use mg_base::Disk;
 use mg_careful::Links;
 use mg_model::histories_go_on;
 
-/// Once the rows of its tables have gone in one batch, the engine stands for the history with the entry.
+/// Once the rows of its tables have gone, those of each in one batch, the engine stands for the history with the entry.
 pub fn engines_take_tables<D: Disk, L: Links>()
     ensures { EnginesTakeTables D L D.meaning }
 {
     histories_go_on();
     standings_go_on();
     changes_are_taken_back::<D, L>();
-    rows_are_taken::<D, L>();
     tables_go_back::<D, L>();
 }

@@ -35,16 +35,18 @@
 //! - `batches`: several records are taken out in one batch, one after another (`TakesRecordsOut`), rows of the catalog
 //!   with whole tables of theirs: every overlay is kept for the history without them (`TakenTablesKeep`). The steps are
 //!   taken with the maker dead, and the last one is the law of `pages`, which has what it wants of the batch by
-//!   `OutsThere`. With the maker dead the pages keep their layout, and each record reads as it did or has gone
+//!   `OutsThere`. That holds of several batches in turn as well, since with the maker dead they add up (`RowsGone`). With the
+//!   maker dead the pages keep their layout, and each record reads as it did or has gone
 //!   (`OutsAreRead`). What `take_rows_out` of mg_table_unmaking takes out is such a batch (`RowsAreTaken`).
 //! - `histories`: a transaction has no change left of a table whose row it has taken back (`ChangedAreThere`), and sees the
 //!   tables that it saw but for these (`ShapesLeft`).
-//! - `shown`: the pages after show the history with the entry (`ShowsLeft`); so the batch is the last step on the way back
-//!   to a point, after which nothing is left to take back (`TablesGoBack`).
+//! - `shown`: the pages after show the history with the entry (`ShowsLeft`). The rows of each table go in a batch of their
+//!   own, after which those of the others are left to take back (`TablesGoOn`), and the last of these batches is the last
+//!   step on the way back to a point (`TablesGoBack`).
 //! - `engines`: the engine stands for the history with the entry then (`EnginesTakeTables`).
 //!
-//! So all rows of the catalog since a point go in one batch, after the keys of all other tables: no overlay has half a
-//! table.
+//! So the rows of the catalog since a point go table by table, after the keys of all other tables, and those of one table in
+//! one batch: no overlay has half a table.
 //!
 //! # Tables by their names, and walks
 //!
@@ -102,7 +104,7 @@ pub use lawful::{databases_are_lawful, seen_rows_are_lawful};
 pub use pages::left_tables_stand;
 pub use rows::{gone_tables_are_whole, tables_are_left};
 pub use seen::newest_are_seen;
-pub use shown::{left_tables_are_shown, tables_go_back};
+pub use shown::{left_tables_are_shown, tables_go_back, tables_go_on};
 pub use standing::{
     chains_go_on, memory_follows, pages_go_on, quiet_pages_go_on, standings_begin, standings_go_on,
     tests_tell_whom_all_see, versions_go_on,

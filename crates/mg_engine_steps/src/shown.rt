@@ -1,10 +1,10 @@
 //! What is known once tables are taken back. Each function does nothing: its contract is the law.
 
 ghost use Rattle.mg_engine_steps.specs.LeftShown.{ShowsLeft};
-ghost use Rattle.mg_engine_steps.specs.TablesBack.{TablesAreTaken, TablesGoBack};
+ghost use Rattle.mg_engine_steps.specs.TablesBack.{TablesAreTaken, TablesGoBack, TablesGoOn};
 
 use crate::{
-    batches_last, changed_tables_are_there, memory_follows, taken_tables_are_there,
+    batches_last, changed_tables_are_there, memory_follows, rows_are_taken, taken_tables_are_there,
     taken_tables_keep,
 };
 use mg_base::Disk;
@@ -22,15 +22,25 @@ pub fn left_tables_are_shown()
     changed_tables_are_there();
 }
 
-/// The batch with the rows is the last step on the way back.
+/// The rows of one table go in a batch, and those of the others are left to take back.
+pub fn tables_go_on<D: Disk, L: Links>()
+    ensures { TablesGoOn D L D.meaning }
+{
+    one_reading();
+    batches_last::<D, L>();
+    taken_tables_keep::<D, L>();
+    taken_tables_are_there::<D, L>();
+    changed_tables_are_there();
+    rows_are_taken::<D, L>();
+}
+
+/// Once those of all have gone, nothing is left to take back.
 pub fn tables_go_back<D: Disk, L: Links>()
     ensures back { TablesGoBack D L D.meaning }
     ensures taken { TablesAreTaken D L D.meaning }
 {
     one_reading();
-    batches_last::<D, L>();
     left_tables_are_shown();
-    taken_tables_keep::<D, L>();
     taken_tables_are_there::<D, L>();
-    changed_tables_are_there();
+    tables_go_on::<D, L>();
 }

@@ -1,5 +1,5 @@
 -- A transaction is taken back to a point over tables that it has made: the engine finds no page damaged.
-use Rattle.std.proofs.Common.{◌≡◌, ◌≢◌, ◌==◌, ◌++◌, ap, refl, sym, subst, ◌∙◌, ℕ, Bool, true, false, List, [], ◌∷◌, Ok, Err}
+use Rattle.std.proofs.Common.{◌≡◌, ◌≢◌, ◌⊎◌, inl, inr, ◌==◌, ◌++◌, ap, refl, sym, subst, ◌∙◌, ℕ, Bool, true, false, List, [], ◌∷◌, Ok, Err}
 use Rattle.std.proofs.lemmas.Bool.{ne_eqb}
 use Rattle.std.specs.Prelude.{if◌then◌else◌, map}
 use Rattle.mg_base.specs.Disk.{Meaning}
@@ -9,14 +9,19 @@ use Rattle.mg_base.specs.declared.numbers.TxNo.{TxNo}
 use Rattle.mg_core.specs.Cores.{IsCatalog, IsCore}
 use Rattle.mg_core.specs.Refusing.{CountsFault}
 use Rattle.mg_core.specs.declared.parts.Core.{Core}
-use Rattle.mg_engine_changes.specs.BackBegun.{goes, kept_begun, knows, midway, opening}
+use Rattle.mg_engine_changes.specs.BackBegun.{knows}
 use Rattle.mg_engine_changes.specs.Events.{may_go, takes_back}
 use Rattle.mg_engine_changes.specs.Keys.{HasTakenKeys, IsOfTable}
 use Rattle.mg_engine_changes.specs.Known.{KnownOfBacks}
 use Rattle.mg_engine_changes.specs.Memory.{MayGoTo}
 use Rattle.mg_engine_changes.specs.Outcomes.{back_event}
+use Rattle.mg_engine_changes.specs.ListsTell.{ListsTellWhole}
+use Rattle.mg_engine_changes.specs.OverRows.{StopsAmong, has_taken, lost_at, stops_among, taken_mid}
+use Rattle.mg_engine_changes.specs.RowsLost.{HasLost}
+use Rattle.mg_engine_steps.specs.TablesBack.{TablesGoOn}
+use Rattle.mg_table_unmaking.specs.Tables.{keys_without}
 use Rattle.mg_engine_changes.specs.OverGiven.{each_of_table, others_are}
-use Rattle.mg_engine_changes.specs.RowsGiven.{GivenApart, of_catalog, of_others}
+use Rattle.mg_engine_changes.specs.RowsGiven.{GivenApart, RowsAreLeft, of_catalog, of_others}
 use Rattle.mg_engine_changes.specs.StopsAfter.{begun_as}
 use Rattle.mg_engine_changes.specs.ToTake.{AreKeysOf, EachChange, since_point}
 use Rattle.mg_engine_meaning.specs.Standings.{ShowsIt, StandsFor, asked_in, sessions_in, standing_of, undo_kept}
@@ -46,8 +51,8 @@ use Rattle.mg_space.specs.declared.fault.SpaceFault.{SpaceFault}
 use Rattle.mg_space.specs.declared.fault.SpaceFault.TheVariants as faults
 use Rattle.mg_space.specs.declared.links.FireLinks.{FireLinks}
 use Rattle.mg_ties.specs.Changed.{KeptIn}
-use Rattle.mg_table_takings.specs.Keys.{others_of}
-use Rattle.mg_table_takings.specs.Takings.{FailsTablesTo, FailsTheRows, StopsBoth, StopsOthers, TakesOthers, TakesTablesTo, rows_unknown, stops_at_other, stops_at_rows, tables_not_begun, tables_not_copied, tables_not_taken, tables_stopped}
+use Rattle.mg_table_takings.specs.Keys.{AreRowsToTake, others_of}
+use Rattle.mg_table_takings.specs.Takings.{FailsTablesTo, FailsTheRows, StopsBoth, StopsOthers, TakesOthers, TakesTables, TakesTablesTo, no_table, one_table, rows_unknown, stops_at_other, stops_at_rows, tables_not_begun, tables_not_copied, tables_not_taken, tables_stopped}
 use Rattle.mg_table_unmaking.specs.Rows.{FailsRowsOut}
 use Rattle.mg_taking_back.specs.Taking.{HasBegun, MayReach, TakesChanges, not_asking}
 use Rattle.mg_txlist.specs.TxList.{said}
@@ -107,7 +112,15 @@ own_still {D} m a b fills refuses it image tells (not_changed batch ready keeps 
       tells = tells_on m a ready image keeps tells;
     })
 
-module _ {D P : Type 0} (m : Meaning D) (known : KnownOfBacks D P m) (apart : GivenApart) (law : KeysMeetNoDamage D m)
+-- the rows of table after table
+tables_stay : {D : Type 0} {m : Meaning D} (t : ℕ) (keys : List Value) (old new : Core D) → TakesTables m t keys old new
+    → new.damage ≡ old.damage
+tables_stay {D} t keys old new (no_table core) = refl
+tables_stay {D} t all old new (one_table key keys begun mid end takes more) =
+    tables_stay t (keys_without key (key ∷ keys)) mid end more ∙ ap (λ (c : Core D). c.damage) takes.same
+
+module _ {D P : Type 0} (m : Meaning D) (known : KnownOfBacks D P m) (apart : GivenApart) (left_law : RowsAreLeft)
+    (tell : ListsTellWhole) (go_on : TablesGoOn D FireLinks m) (law : KeysMeetNoDamage D m)
     (missing : KeysMissNoPage D m) (rows_law : RowsMeetNoDamage D m) (old new : Core D) (t : TxNo)
     (core : IsCore m old) where
   module _ (point : Point) (begun : Core D) (undo : Undo) (has_begun : HasBegun old begun t.0 undo)
@@ -192,60 +205,75 @@ module _ {D P : Type 0} (m : Meaning D) (known : KnownOfBacks D P m) (apart : Gi
         takes = subst (λ (c : Core D). TakesChanges m t.0 c (others_of c.catalog.pointer.0 stops.given) stops.at)
             begun_is stops.takes
 
-    -- ---- it stops at the rows
+    -- ---- it stops at the rows of a table
 
-    module _ (mid : Core D) (end : Undo)
-        (taken : TakesOthers m (not_asking t.0 begun) mid t.0 (going_to undo point) end) where
-      has_taken : HasTakenKeys m old.store.geometry.size o h e t.0 whole whole (of_others firsts) (of_catalog firsts) s
+    module _ (mid : Core D) (end : Undo) (keys : List Value)
+        (rows : AreRowsToTake begun.catalog.pointer.0 (going_to undo point) keys)
+        (taken : TakesOthers m (not_asking t.0 begun) mid t.0 (going_to undo point) end)
+        (among : StopsAmong m t.0 keys refusal mid stopped) where
+      abbrev has_others : HasTakenKeys m old.store.geometry.size o h e t.0 whole whole (of_others firsts) (of_catalog firsts) s
           old.store old.store (shown old.store.dirty shows.image) shows.stands.shows shows.image
           (asked_in (with_work t.0 unasked old.works)) (sessions_in old.works) (begun_as old begun t.0) mid
-      has_taken = known.takes_all (begun_as old begun t.0) (begun_as old begun t.0) mid s old.store.geometry.size o h e
-          point t.0 whole whole (of_others firsts) (of_catalog firsts) old.store old.store
-          (shown old.store.dirty shows.image) shows.stands.shows shows.image
-          (asked_in (with_work t.0 unasked old.works)) (sessions_in old.works) refl refl
-          (opening m known old begun t point undo core has_begun o h stands shows) shows.stands.legal
-          shows.stands.memory (goes m known old begun t point undo core has_begun o h stands shows)
-          (kept_begun m known old begun t point undo core has_begun o h stands shows)
-          (of_tables taken.given end taken.steps) left_rows refl
-          (subst (λ (ks : List Kept). TakesChanges m t.0 (begun_as old begun t.0) ks mid)
-          (others taken.given end taken.steps)
-          (subst (λ (c : Core D). TakesChanges m t.0 c (others_of c.catalog.pointer.0 taken.given) mid) begun_is
-          taken.takes)) (midway m known old begun t point undo core has_begun o h stands shows)
-          (knows m known old begun t point undo core has_begun o h stands shows) shows.catalog
+      has_others = has_taken m known apart left_law tell go_on old begun stopped t point undo refusal core has_begun
+          reaches mid end keys rows taken o h stands shows
 
-      kept_now : KeptIn packed_form mid.store.geometry.size o (again t.0 has_taken.rest (e ∷ h)) (said old.list)
-          (asked_in (with_work t.0 unasked old.works)) (sessions_in old.works) mid.store has_taken.image
-      kept_now = subst (λ (n : ℕ). KeptIn packed_form n o (again t.0 has_taken.rest (e ∷ h)) (said old.list)
-          (asked_in (with_work t.0 unasked old.works)) (sessions_in old.works) mid.store has_taken.image)
-          (sym has_taken.knows.size_is) has_taken.midway.cache.kept
+      -- what had gone of the first tables
+      has_lost : (j : Image) × HasLost m mid.store.geometry.size o h e t.0 s old.store mid among.at has_others.image j
+          (asked_in (with_work t.0 unasked old.works)) (sessions_in old.works)
+      has_lost = lost_at m known apart left_law tell go_on old begun stopped t point undo refusal core has_begun reaches
+          mid end keys rows taken o h stands shows among.at among.first
 
-      fault_stays : (keys : List Value) (fault : SpaceFault) → FailsRowsOut m mid.store stopped.store (said old.list)
-          old.live t.0 old.catalog keys fault → (shortages : ℕ)
+      abbrev lost : HasLost m mid.store.geometry.size o h e t.0 s old.store mid among.at has_others.image has_lost.0
+          (asked_in (with_work t.0 unasked old.works)) (sessions_in old.works)
+      lost = has_lost.1
+
+      kept_now : KeptIn packed_form among.at.store.geometry.size o (again t.0 lost.left (e ∷ h)) (said old.list)
+          (asked_in (with_work t.0 unasked old.works)) (sessions_in old.works) among.at.store has_lost.0
+      kept_now = subst (λ (n : ℕ). KeptIn packed_form n o (again t.0 lost.left (e ∷ h)) (said old.list)
+          (asked_in (with_work t.0 unasked old.works)) (sessions_in old.works) among.at.store has_lost.0)
+          (sym lost.size_is) lost.cache.kept
+
+      same_at : among.at ≡ record old {
+        waits = begun.waits;
+        works = with_work t.0 unasked old.works;
+        store = among.at.store;
+      }
+      same_at = lost.same ∙ ap (λ (c : Core D). record c { store = among.at.store }) has_others.same
+
+      fault_stays : (its : List Value) (fault : SpaceFault) → FailsRowsOut m among.at.store stopped.store (said old.list)
+          old.live t.0 old.catalog its fault → (shortages : ℕ)
           → CountsFault fault old.damage stopped.damage old.shortages shortages → stopped.damage ≡ old.damage
-      fault_stays keys (faults.Full limit) fails shortages counts = counts.0
-      fault_stays keys (faults.Damaged it) fails shortages counts = absurd (rows_law mid.store stopped.store
-          has_taken.image o (again t.0 has_taken.rest (e ∷ h)) (said old.list) old.live t.0 old.catalog keys
+      fault_stays its (faults.Full limit) fails shortages counts = counts.0
+      fault_stays its (faults.Damaged it) fails shortages counts = absurd (rows_law among.at.store stopped.store
+          has_lost.0 o (again t.0 lost.left (e ∷ h)) (said old.list) old.live t.0 old.catalog its
           (asked_in (with_work t.0 unasked old.works)) (sessions_in old.works) has_begun.continues.1
-          (catalog_is old.catalog (header_of (shown mid.store.dirty has_taken.image)).catalog.0 core.catalog
-          has_taken.catalog) kept_now
-          (own_still m mid.store stopped.store _ _ it has_taken.image has_taken.knows.tells fails.own) it
-          (fails.damage it refl has_taken.image has_taken.knows.tells))
-      fault_stays keys (faults.Pool (pool_faults.DiskRead n)) fails shortages counts = counts.0
-      fault_stays keys (faults.Pool (pool_faults.DiskWrite n)) fails shortages counts = counts.0
-      fault_stays keys (faults.Pool (pool_faults.Offline n)) fails shortages counts = counts.0
-      fault_stays keys (faults.Pool (pool_faults.Absent n)) fails shortages counts =
-          absurd (own_missing m mid.store stopped.store _ _ n fails.own)
-      fault_stays keys (faults.Pool pool_faults.Memory) fails shortages counts = counts.0
+          (catalog_is old.catalog (header_of (shown among.at.store.dirty has_lost.0)).catalog.0 core.catalog
+          (has_others.catalog ∙ sym lost.lists.tips.catalog)) kept_now
+          (own_still m among.at.store stopped.store _ _ it has_lost.0 lost.knows.tells fails.own) it
+          (fails.damage it refl has_lost.0 lost.knows.tells))
+      fault_stays its (faults.Pool (pool_faults.DiskRead n)) fails shortages counts = counts.0
+      fault_stays its (faults.Pool (pool_faults.DiskWrite n)) fails shortages counts = counts.0
+      fault_stays its (faults.Pool (pool_faults.Offline n)) fails shortages counts = counts.0
+      fault_stays its (faults.Pool (pool_faults.Absent n)) fails shortages counts =
+          absurd (own_missing m among.at.store stopped.store _ _ n fails.own)
+      fault_stays its (faults.Pool pool_faults.Memory) fails shortages counts = counts.0
 
-      rows_stay : (keys : List Value) → FailsTheRows m mid stopped t.0 keys refusal → stopped.damage ≡ old.damage
-      rows_stay keys fails =
-          let its = subst (λ (c : Core D). FailsTheRows m c stopped t.0 keys refusal) has_taken.same fails in
-          fault_stays keys its.fault its.fails stopped.shortages its.counts
+      rows_stay : (stopped ≡ among.at) ⊎ ((its : List Value) × FailsTheRows m among.at stopped t.0 its refusal)
+          → stopped.damage ≡ old.damage
+      rows_stay (inl same) = ap (λ (c : Core D). c.damage) (same ∙ same_at)
+      rows_stay (inr (its, fails)) =
+          let there = subst (λ (c : Core D). FailsTheRows m c stopped t.0 its refusal) same_at fails in
+          fault_stays its there.fault there.fails stopped.shortages there.counts
 
-    both_stay : (keys : List Value) → StopsBoth m (not_asking t.0 begun) stopped t.0 (going_to undo point) keys refusal
+    both_stay : (keys : List Value) → AreRowsToTake begun.catalog.pointer.0 (going_to undo point) keys
+        → StopsBoth m (not_asking t.0 begun) stopped t.0 (going_to undo point) keys refusal
         → stopped.damage ≡ old.damage
-    both_stay keys (stops_at_other stops) = other_stays stops
-    both_stay keys (stops_at_rows mid end taken fails) = rows_stay mid end taken keys fails
+    both_stay keys rows (stops_at_other stops) = other_stays stops
+    both_stay keys rows (stops_at_rows mid end taken fails) =
+        let stood = taken_mid m known apart left_law tell go_on old begun stopped t point undo refusal core has_begun
+        reaches mid end keys rows taken in
+        let among = stops_among m t.0 refusal keys mid stopped stood.pool stood.on.online fails in
+        rows_stay mid end keys rows taken among among.cause
 
   -- ---- each outcome
 
@@ -258,28 +286,28 @@ module _ {D P : Type 0} (m : Meaning D) (known : KnownOfBacks D P m) (apart : Gi
       given_up_stays begun new t.0 refusal gives ∙ ap (λ (c : Core D). c.damage) has_begun.ended.same
   over_fails point refusal (tables_not_taken begun undo has_begun reaches (tables_stopped keys stopped rows stops gives))
       o h stands told = given_up_stays stopped new t.0 refusal gives
-      ∙ both_stay point begun undo has_begun reaches stopped refusal o h stands keys stops
+      ∙ both_stay point begun undo has_begun reaches stopped refusal o h stands keys rows stops
 
   pub over_takes : (point : Point) → TakesTablesTo m old new t.0 point → new.damage ≡ old.damage
   over_takes point takes = ap (λ (c : Core D). c.damage) takes.takes.same
-      ∙ (ap (λ (c : Core D). c.damage) takes.takes.takes.rows.same
+      ∙ (tables_stay t.0 takes.takes.keys takes.takes.takes.mid takes.takes.taken takes.takes.takes.rows
       ∙ (taken_stays m t.0 (not_asking t.0 takes.begun) takes.takes.takes.mid
       (others_of takes.begun.catalog.pointer.0 takes.takes.takes.others.given) takes.takes.takes.others.takes
       ∙ ap (λ (c : Core D). c.damage) takes.has_begun.ended.same))
 
 pub marks_over_meet_no_damage : {D P : Type 0} (m : Meaning D) → KnownOfBacks D P m → GivenApart
-    → KeysMeetNoDamage D m → KeysMissNoPage D m → RowsMeetNoDamage D m → MarksOverMeetNoDamage D m
-marks_over_meet_no_damage m known apart law missing rows_law old new t (Ok x) core takes o h stands told =
-    over_takes m known apart law missing rows_law old new t core LastMark takes
-marks_over_meet_no_damage m known apart law missing rows_law old new t (Err refusal) core fails o h stands told =
-    over_fails m known apart law missing rows_law old new t core LastMark refusal fails o h stands told
+    → RowsAreLeft → ListsTellWhole → TablesGoOn D FireLinks m → KeysMeetNoDamage D m → KeysMissNoPage D m → RowsMeetNoDamage D m → MarksOverMeetNoDamage D m
+marks_over_meet_no_damage m known apart left_law tell go_on law missing rows_law old new t (Ok x) core takes o h stands told =
+    over_takes m known apart left_law tell go_on law missing rows_law old new t core LastMark takes
+marks_over_meet_no_damage m known apart left_law tell go_on law missing rows_law old new t (Err refusal) core fails o h stands told =
+    over_fails m known apart left_law tell go_on law missing rows_law old new t core LastMark refusal fails o h stands told
 
 pub savepoints_over_meet_no_damage : {D P : Type 0} (m : Meaning D) → KnownOfBacks D P m → GivenApart
-    → KeysMeetNoDamage D m → KeysMissNoPage D m → RowsMeetNoDamage D m → SavepointsOverMeetNoDamage D m
-savepoints_over_meet_no_damage m known apart law missing rows_law old new t name (Ok true) core gone o h stands told =
-    over_takes m known apart law missing rows_law old new t core (SavepointNamed name) gone.1
-savepoints_over_meet_no_damage {D} m known apart law missing rows_law old new t name (Ok false) core gone o h stands
+    → RowsAreLeft → ListsTellWhole → TablesGoOn D FireLinks m → KeysMeetNoDamage D m → KeysMissNoPage D m → RowsMeetNoDamage D m → SavepointsOverMeetNoDamage D m
+savepoints_over_meet_no_damage m known apart left_law tell go_on law missing rows_law old new t name (Ok true) core gone o h stands told =
+    over_takes m known apart left_law tell go_on law missing rows_law old new t core (SavepointNamed name) gone.1
+savepoints_over_meet_no_damage {D} m known apart left_law tell go_on law missing rows_law old new t name (Ok false) core gone o h stands
     told = ap (λ (c : Core D). c.damage) gone.2
-savepoints_over_meet_no_damage m known apart law missing rows_law old new t name (Err refusal) core fails o h stands
-    told = over_fails m known apart law missing rows_law old new t core (SavepointNamed name) refusal fails o h stands
+savepoints_over_meet_no_damage m known apart left_law tell go_on law missing rows_law old new t name (Err refusal) core fails o h stands
+    told = over_fails m known apart left_law tell go_on law missing rows_law old new t core (SavepointNamed name) refusal fails o h stands
     told

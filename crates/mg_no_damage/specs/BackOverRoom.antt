@@ -1,6 +1,6 @@
 -- A transaction that is taken back over tables that it has made takes two pages at most for each change of another
 -- table, and none for the rows of the catalog.
-use Rattle.std.proofs.Common.{◌≡◌, ◌∙◌, ◌≤◌, ◌+◌, ◌*◌, ◌==◌, ℕ, Bool, true, false, List, [], ◌∷◌, length, Option, Some, None, Ok, Err, sym, ap, subst, arith}
+use Rattle.std.proofs.Common.{◌≡◌, ◌∙◌, ◌≤◌, ◌+◌, ◌*◌, ◌==◌, ℕ, Bool, true, false, List, [], ◌∷◌, length, Option, Some, None, Ok, Err, refl, sym, ap, subst, arith}
 use Rattle.std.specs.Prelude.{if◌then◌else◌}
 use Rattle.mg_base.specs.Disk.{Meaning}
 use Rattle.mg_base.specs.declared.geometry.Geometry.{Geometry}
@@ -22,8 +22,9 @@ use Rattle.mg_records.specs.Room.{pages_of_row, records_back}
 use Rattle.mg_space.specs.Taking.{IsGeometry}
 use Rattle.mg_space.specs.declared.links.FireLinks.{FireLinks}
 use Rattle.mg_table_takings.specs.Keys.{others_of}
-use Rattle.mg_table_takings.specs.Takings.{FailsTablesTo, FailsTheRows, StopsBoth, StopsOthers, TakesBoth, TakesOthers, TakesTablesTo, rows_unknown, stops_at_other, stops_at_rows, tables_not_begun, tables_not_copied, tables_not_taken, tables_stopped}
+use Rattle.mg_table_takings.specs.Takings.{FailsTables, FailsTablesTo, FailsTheRows, StopsBoth, StopsOthers, TakesBoth, TakesOthers, TakesTables, TakesTablesTo, later_table, no_table, one_table, rows_unknown, stops_at_other, stops_at_rows, tables_not_begun, tables_not_copied, tables_not_taken, tables_stopped, table_stands, table_unknown}
 use Rattle.mg_taking_back.specs.Taking.{Gives, HasBegun, MayReach, not_asking}
+use Rattle.mg_table_unmaking.specs.Tables.{keys_with, keys_without}
 use Rattle.mg_txlist.specs.TxList.{said}
 use Rattle.mg_undo.specs.Machine.{going_to}
 use Rattle.mg_undo.specs.Undo.{State as Undo, TakesBack as GivesAll, take_back}
@@ -40,7 +41,7 @@ use Rattle.mg_no_damage.specs.FewPagesCalls.{MarksOverTakeFew, SavepointsOverTak
 use Rattle.mg_no_damage.specs.FewPagesLaws.{KnowsRoom}
 use Rattle.mg_free_pages.specs.RowsOutSpending.{failed_rows_out, rows_out_spend}
 use Rattle.mg_free_pages.specs.Spending.{SpendsAtMost}
-use Rattle.mg_free_pages.specs.SpendingLaws.{both_spend, more_spent}
+use Rattle.mg_free_pages.specs.SpendingLaws.{both_spend, more_spent, nothing_spent}
 
 -- ---- what is given
 
@@ -114,15 +115,23 @@ module _ {D : Type 0} (m : Meaning D) (knows : KnowsRoom m) where
       (omega (arith, few, all))
       (changes_spend m knows.holds knows.batches t begun mid (others_of begun.catalog.pointer.0 it.given) it.takes)
 
-  -- and then the rows of the catalog, by which no page is taken
+  -- then the rows of the catalog, table by table, by which no page is taken
+  tables_spend : (t : ℕ) (keys : List Value) (old new : Core D) → TakesTables m t keys old new
+      → SpendsAtMost m old.store new.store 0
+  tables_spend t keys old new (no_table core) = nothing_spent m core.store core.store refl
+  tables_spend t all old new (one_table key keys begun mid end takes more) =
+      both_spend m knows.holds begun.store mid.store end.store 0 0
+      (rows_out_spend m knows.holds knows.batches (said begun.list) begun.live t begun.catalog begun.store mid.store
+      (keys_with key (key ∷ keys)) takes.takes) (tables_spend t (keys_without key (key ∷ keys)) mid end more)
+
+  -- and so all
   all_spend : (begun taken : Core D) (t : ℕ) (start end : Undo) (keys : List Value) (most : ℕ) → GivesFew start most
       → TakesBoth m begun taken t start end keys → SpendsAtMost m begun.store taken.store (2 * most)
   all_spend begun taken t start end keys most gives it =
       more_spent m begun.store taken.store (2 * most + 0) (2 * most) (omega arith)
       (both_spend m knows.holds begun.store it.mid.store taken.store (2 * most) 0
       (others_spend begun it.mid t start end most gives it.others)
-      (rows_out_spend m knows.holds knows.batches (said it.mid.list) it.mid.live t it.mid.catalog it.mid.store
-      taken.store keys it.rows.takes))
+      (tables_spend t keys it.mid taken it.rows))
 
   -- ---- it stops
 
@@ -149,6 +158,21 @@ module _ {D : Type 0} (m : Meaning D) (knows : KnowsRoom m) where
             it.1 lawful i shows.tells shows.regions shows.free is.0 is.1;
       }
 
+  -- want of memory is no want of pages, and no page was taken
+  tables_stop : (t : ℕ) (refusal : Refusal) (keys : List Value) (mid stopped : Core D) → IsGeometry mid.store.geometry
+      → FailsTables m t refusal keys mid stopped → TakesPages m mid stopped (Some refusal) 0
+  tables_stop t refusal its mid stopped lawful (table_unknown keys core is) = record {
+    spends = nothing_spent m core.store core.store refl;
+    enough = λ i shows limit full. memory_no_want refusal is limit (cc full);
+  }
+  tables_stop t refusal all mid stopped lawful (table_stands key keys begun end fails) =
+      rows_stop begun end t (keys_with key (key ∷ keys)) refusal lawful fails
+  tables_stop t refusal all mid stopped lawful (later_table key keys begun next end takes more) =
+      let spent = rows_out_spend m knows.holds knows.batches (said begun.list) begun.live t begun.catalog begun.store
+      next.store (keys_with key (key ∷ keys)) takes.takes in
+      after_spent begun next end (Some refusal) 0 0 lawful spent
+      (tables_stop t refusal (keys_without key (key ∷ keys)) next end (subst IsGeometry (sym spent.geometry) lawful) more)
+
   both_stop : (begun stopped : Core D) (t : ℕ) (start : Undo) (keys : List Value) (refusal : Refusal) (most : ℕ)
       → GivesFew start most → IsGeometry begun.store.geometry → StopsBoth m begun stopped t start keys refusal
       → TakesPages m begun stopped (Some refusal) (2 * most)
@@ -158,7 +182,7 @@ module _ {D : Type 0} (m : Meaning D) (knows : KnowsRoom m) where
       let spent = others_spend begun mid t start end most gives taken in
       more_pages begun stopped (Some refusal) (2 * most + 0) (2 * most) (omega arith)
       (after_spent begun mid stopped (Some refusal) (2 * most) 0 lawful spent
-      (rows_stop mid stopped t keys refusal (subst IsGeometry (sym spent.geometry) lawful) fails))
+      (tables_stop t refusal keys mid stopped (subst IsGeometry (sym spent.geometry) lawful) fails))
 
 -- ---- to a point
 

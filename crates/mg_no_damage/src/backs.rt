@@ -10,9 +10,11 @@ use crate::{
     sound_images_are_lawful, versions_go_out,
 };
 use mg_base::Disk;
-use mg_engine_changes::{backs_are_known, kept_tables_stand, rows_are_given};
+use mg_engine_changes::{backs_are_known, kept_tables_stand, lists_tell_whole, rows_are_given};
+use mg_engine_steps::tables_go_on;
 use mg_image::one_reading;
 use mg_seek::{keys_are_those_of_the_history, records_are_those_of_every_reading};
+use mg_space::FireLinks;
 
 /// A key is taken back.
 pub fn keys_meet_no_damage<D: Disk>()
@@ -56,6 +58,8 @@ pub fn backs_over_meet_no_damage<D: Disk>()
 {
     backs_are_known::<D, u32>();
     rows_are_given();
+    lists_tell_whole();
+    tables_go_on::<D, FireLinks>();
     keys_meet_no_damage::<D>();
     rows_meet_no_damage::<D>();
 }

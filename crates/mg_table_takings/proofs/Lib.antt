@@ -1,3 +1,4 @@
 mod KeyLemmas
 mod OtherLemmas
 mod PointLemmas
+mod TableLemmas

@@ -21,7 +21,7 @@ use Rattle.mg_taking_back.specs.Taking.{GivesUpBy, HasBegun, IsUndoOf, not_askin
 use Rattle.mg_taking_back.specs.CoreLaws.{with_same}
 use Rattle.mg_table_unmaking.specs.Rows.{FailsRowsOut}
 use Rattle.mg_table_takings.specs.Keys.{AreRowsToTake}
-use Rattle.mg_table_takings.specs.Takings.{FailsTablesFrom, FailsTablesTo, FailsTheRows, StopsBoth, TakesBoth, TakesOthers, TakesTablesFrom, TakesTablesTo, TakesTheRows, rows_unknown, stops_at_rows, tables_not_copied, tables_not_taken, tables_stopped}
+use Rattle.mg_table_takings.specs.Takings.{FailsTables, FailsTablesFrom, FailsTablesTo, FailsTheRows, StopsBoth, TakesBoth, TakesOthers, TakesTables, TakesTablesFrom, TakesTablesTo, rows_unknown, stops_at_rows, tables_not_copied, tables_not_taken, tables_stopped}
 
 -- the same transactions have works
 pub left_same : (works set dropped now : List Working) (t : ℕ) (end : Undo) (keys : List Value)
@@ -134,7 +134,7 @@ not_copied {D} m old begun new t point told continues ended is gives_up = tables
 
 pub both_by : {D : Type 0} (m : Meaning D) (old mid new : Core D) (t : ℕ) (start end : Undo) (keys : List Value)
     (result : Result (Unit {0}) Refusal) → TakesOthers m old mid t start end
-    → MatchResult result (λ _. TakesTheRows m mid new t keys) (FailsTheRows m mid new t keys)
+    → MatchResult result (λ _. TakesTables m t keys mid new) (λ refusal. FailsTables m t refusal keys mid new)
     → MatchResult result (λ _. TakesBoth m old new t start end keys) (StopsBoth m old new t start keys)
 both_by m old mid new t start end keys (Ok x) others rows = record { mid = mid; others = others; rows = rows }
 both_by m old mid new t start end keys (Err refusal) others rows = stops_at_rows mid end others rows

@@ -1,5 +1,5 @@
 -- A transaction takes back all that it has changed since a point, with tables that it has made.
-use Rattle.std.specs.Prelude.{◌≡◌, ◌≢◌, ℕ, Bool, true, false, List, Some, Result, Ok, Err}
+use Rattle.std.specs.Prelude.{◌≡◌, ◌≢◌, ℕ, Bool, true, false, List, [], ◌∷◌, Some, Result, Ok, Err}
 use Rattle.mg_base.specs.Disk.{Meaning}
 use Rattle.mg_value.specs.declared.value.Value.{Value}
 use Rattle.mg_model.specs.declared.change.Point.{Point}
@@ -19,6 +19,7 @@ use Rattle.mg_core.specs.Refusing.{CountsFault, IsRefusal, NamesLimit}
 use Rattle.mg_taking_back.specs.Changes.{FailsChange}
 use Rattle.mg_taking_back.specs.Taking.{Gives, GivesUpBy, HasBegun, MayReach, TakesChanges, not_asking}
 use Rattle.mg_table_unmaking.specs.Rows.{FailsRowsOut, TakesRowsOut}
+use Rattle.mg_table_unmaking.specs.Tables.{keys_with, keys_without}
 use Rattle.mg_table_takings.specs.Keys.{AreRowsToTake, others_of}
 
 -- ---- the changes of other tables
@@ -44,7 +45,7 @@ pub record StopsOthers {D : Type 0} (m : Meaning D) (old new : Core D) (t : ℕ)
 
 -- ---- the rows of the catalog
 
--- They are taken out in one batch; only the pages have changed.
+-- The rows of a table are taken out in one batch; only the pages have changed.
 pub record TakesTheRows {D : Type 0} (m : Meaning D) (old new : Core D) (t : ℕ) (keys : List Value) : Type 0 where
   pub takes : TakesRowsOut m old.store new.store (said old.list) old.live t old.catalog keys
   pub same : new ≡ record old { store = new.store }
@@ -59,6 +60,34 @@ pub record FailsTheRows {D : Type 0} (m : Meaning D) (old new : Core D) (t : ℕ
   pub counts : CountsFault fault old.damage new.damage old.shortages new.shortages
   pub same : new ≡ record old { store = new.store; damage = new.damage; shortages = new.shortages }
 
+-- The rows of the table that a key is of are taken out, and these keys are those of the others.
+pub record TakesOneTable {D : Type 0} (m : Meaning D) (old new : Core D) (t : ℕ) (keys : List Value) (key : Value)
+    (others : List Value) : Type 0 where
+  pub takes : TakesTheRows m old new t (keys_with key keys)
+  pub left : others ≡ keys_without key keys
+
+-- They are not: which they are is not noted, for want of memory, or they stand.
+pub data FailsOneTable {D : Type 0} (m : Meaning D) (old new : Core D) (t : ℕ) (keys : List Value) (key : Value)
+    (refusal : Refusal) : Type 0 where
+  not_parted : refusal ≡ Memory → new ≡ old → FailsOneTable m old new t keys key refusal
+  not_out : FailsTheRows m old new t (keys_with key keys) refusal → FailsOneTable m old new t keys key refusal
+
+-- The rows under these keys are taken out table by table, those of the first key's table first.
+pub data TakesTables {D : Type 0} (m : Meaning D) (t : ℕ) : List Value → Core D → Core D → Type 0 where
+  no_table : (core : Core D) → TakesTables m t [] core core
+  one_table : (key : Value) (keys : List Value) (old mid new : Core D)
+      → TakesTheRows m old mid t (keys_with key (key ∷ keys)) → TakesTables m t (keys_without key (key ∷ keys)) mid new
+      → TakesTables m t (key ∷ keys) old new
+
+-- Those of some tables are, and then want of memory or a fault on the pages ends it: the rows of the next table stand.
+pub data FailsTables {D : Type 0} (m : Meaning D) (t : ℕ) (refusal : Refusal) : List Value → Core D → Core D → Type 0 where
+  table_unknown : (keys : List Value) (core : Core D) → refusal ≡ Memory → FailsTables m t refusal keys core core
+  table_stands : (key : Value) (keys : List Value) (old new : Core D)
+      → FailsTheRows m old new t (keys_with key (key ∷ keys)) refusal → FailsTables m t refusal (key ∷ keys) old new
+  later_table : (key : Value) (keys : List Value) (old mid new : Core D)
+      → TakesTheRows m old mid t (keys_with key (key ∷ keys))
+      → FailsTables m t refusal (keys_without key (key ∷ keys)) mid new → FailsTables m t refusal (key ∷ keys) old new
+
 -- ---- both
 
 -- The changes of other tables are taken back, and then the rows of the catalog under these keys.
@@ -66,14 +95,14 @@ pub record TakesBoth {D : Type 0} (m : Meaning D) (old new : Core D) (t : ℕ) (
     : Type 0 where
   pub mid : Core D
   pub others : TakesOthers m old mid t start end
-  pub rows : TakesTheRows m mid new t keys
+  pub rows : TakesTables m t keys mid new
 
--- Or it stops at a change of another table, or at the rows.
+-- Or it stops at a change of another table, or at the rows of a table.
 pub data StopsBoth {D : Type 0} (m : Meaning D) (old new : Core D) (t : ℕ) (start : Undo) (keys : List Value)
     (refusal : Refusal) : Type 0 where
   stops_at_other : StopsOthers m old new t start refusal → StopsBoth m old new t start keys refusal
   stops_at_rows : (mid : Core D) (end : Undo) → TakesOthers m old mid t start end
-      → FailsTheRows m mid new t keys refusal → StopsBoth m old new t start keys refusal
+      → FailsTables m t refusal keys mid new → StopsBoth m old new t start keys refusal
 
 -- ---- to a point
 
@@ -83,8 +112,8 @@ abbrev pub works_left : ℕ → Undo → List Value → List Working → List Wo
 works_left t end keys works =
     with_work t without_tables (with_work t (without_written keys) (with_work t (with_undo end) works))
 
--- Once the event has begun: all is taken back that is given from some list on, the rows of the catalog last and in one
--- batch, and what is left of it is kept.
+-- Once the event has begun: all is taken back that is given from some list on, the rows of the catalog last and those of
+-- each table in one batch, and what is left of it is kept.
 pub record TakesTablesFrom {D : Type 0} (m : Meaning D) (begun new : Core D) (t : ℕ) (start : Undo) : Type 0 where
   pub keys : List Value
   pub rows : AreRowsToTake begun.catalog.pointer.0 start keys

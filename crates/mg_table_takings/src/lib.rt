@@ -4,8 +4,8 @@
 //! `mg_taking_back` for a transaction that takes no table back. First it is found which rows of the catalog go, from a
 //! copy of what there is to take back: each was made by the transaction, and they are those of whole tables. Then the
 //! changes of all other tables are taken back, key by key, each in a batch of its own. Then the rows of the catalog are
-//! taken out, all in one batch, so that on no page there is half a table. At last what the transaction has written into
-//! loses the tables that have gone.
+//! taken out, those of each table in a batch of their own, so that on no page there is half a table, and no two tables
+//! close a cycle of page writes. At last what the transaction has written into loses the tables that have gone.
 //!
 //! The pages of such a table stay used, and nothing names them any more. What was written into it is taken back before,
 //! so nobody asks for it by its first page.
@@ -20,5 +20,6 @@ mod changes;
 mod keys;
 mod points;
 mod rows;
+mod tables;
 
 pub use points::{back_over_tables, undo_tables_to_mark};

@@ -9,7 +9,7 @@ use crate::{
 use mg_base::Disk;
 use mg_engine_steps::{
     changed_tables_are_there, changes_are_taken_back, engines_take_tables, lists_go_on,
-    pages_show_what_is_taken_back, rows_are_taken, tables_go_back, unasking_lasts,
+    pages_show_what_is_taken_back, tables_go_back, unasking_lasts,
 };
 use mg_grown_catalogs::catalogs_grow;
 use mg_image_overlays::sound_images_stand_one_way;
@@ -38,7 +38,6 @@ pub fn engines_go_over<D: Disk>()
     tables_follow();
     engines_take_tables::<D, FireLinks>();
     tables_go_back::<D, FireLinks>();
-    rows_are_taken::<D, FireLinks>();
     changed_tables_are_there();
     sound_images_stand_one_way();
     keys_keep_pages::<D, FireLinks>();

@@ -1,4 +1,4 @@
-//! Memory, walks and the batch in which the rows of the catalog go. Each function does nothing: its contract is the law.
+//! Memory, walks and the batches in which the rows of the catalog go. Each function does nothing: its contract is the law.
 
 ghost use Rattle.mg_engine_changes.specs.CoreRows.{CoresTakeRows};
 ghost use Rattle.mg_engine_changes.specs.TablesMemory.{TablesFollow};
@@ -6,8 +6,9 @@ ghost use Rattle.mg_engine_changes.specs.TablesWalks.{TablesWalksGoOn};
 
 use crate::row_walks_go_on;
 use mg_base::Disk;
-use mg_engine_steps::left_tables_are_seen;
+use mg_engine_steps::{left_tables_are_seen, tables_go_on};
 use mg_image_overlays::sound_images_stand_one_way;
+use mg_space::FireLinks;
 use mg_undo::the_list_follows_the_machine;
 
 /// Memory follows the entry by which a transaction is taken back, with tables that it had made.
@@ -29,4 +30,6 @@ pub fn tables_walks_go_on()
 /// What the core takes out of the catalog is what the laws take out of it.
 pub fn cores_take_rows<D: Disk>()
     ensures { CoresTakeRows D D.meaning }
-{}
+{
+    tables_go_on::<D, FireLinks>();
+}

@@ -39,8 +39,8 @@ use crate::{engines_give_up, its_records_are_found, keys_are_taken, keys_go_on};
 use mg_base::Disk;
 use mg_careful::Links;
 use mg_engine_steps::{
-    batches_last, changes_are_taken_back, pages_show_what_is_taken_back, standings_go_on,
-    tables_keep_pages, tips_stay,
+    batches_last, changes_are_taken_back, page_writes_go_on, pages_show_what_is_taken_back,
+    standings_go_on, tables_keep_pages, tips_stay,
 };
 use mg_image::one_reading;
 use mg_image_overlays::{names_tell_tables, sound_images_stand_one_way};
@@ -105,7 +105,7 @@ pub fn keys_keep_pages<D: Disk, L: Links>()
     tables_keep_pages();
 }
 
-/// After some keys a step is refused, or a page write fails.
+/// After some keys, and the rows of some tables, a step is refused, or a page write fails.
 pub fn stops_go_on<D: Disk, L: Links>()
     ensures given_up { StopsAreGivenUp D L D.meaning }
     ensures failed { WritesFailMidway D L D.meaning }
@@ -119,5 +119,6 @@ pub fn stops_go_on<D: Disk, L: Links>()
     keys_go_on::<D, L>();
     changes_are_taken_back::<D, L>();
     pages_show_what_is_taken_back();
+    page_writes_go_on::<D, L>();
     engines_give_up::<D, L>();
 }

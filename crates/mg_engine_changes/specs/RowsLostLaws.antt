@@ -1,0 +1,291 @@
+-- Rows of the catalog are taken out table by table, as far as it goes.
+use Rattle.std.proofs.Common.{◌≡◌, ◌∙◌, ◌∷◌, [], ℕ, List, Option, ap, false, inl, inr, refl, subst, sym, ◌⊎◌, ◌≢◌, ◌++◌}
+use Rattle.std.proofs.lemmas.Bool.{eq-eqb}
+use Rattle.mg_base.specs.Disk.{Meaning}
+use Rattle.mg_base.specs.Image.{Image}
+use Rattle.mg_base.specs.declared.numbers.RecId.{RecId}
+use Rattle.mg_base.specs.declared.transaction.TxState.{TxState}
+use Rattle.mg_chain.specs.Chains.{takes_version}
+use Rattle.mg_core.specs.Cores.{IsCatalog}
+use Rattle.mg_core.specs.declared.parts.Core.{Core}
+use Rattle.mg_engine_changes.specs.Chains.{HasTaken}
+use Rattle.mg_engine_changes.specs.CoreRows.{HasTakenRows, KnowsStore}
+use Rattle.mg_engine_changes.specs.CoreRowsLaws.{catalog_mid, core_mid, first, live_mid, midway_mid, state_mid, turn}
+use Rattle.mg_engine_changes.specs.Keys.{HasCatalog}
+use Rattle.mg_engine_changes.specs.MadeLaws.{on_then, own_on}
+use Rattle.mg_engine_changes.specs.RowWalks.{ShowsOn, row_at_record}
+use Rattle.mg_engine_changes.specs.RowWalksLaws.{row_walks_go_on}
+use Rattle.mg_engine_changes.specs.RowsLost.{HasLost, LoseRows, TakesFirst, no_first, one_first}
+use Rattle.mg_engine_changes.specs.TipLaws.{tips_then}
+use Rattle.mg_engine_changes.specs.Tips.{KeepsTips}
+use Rattle.mg_engine_meaning.specs.Falling.{all_but}
+use Rattle.mg_engine_steps.specs.Again.{again, without_rows}
+use Rattle.mg_engine_steps.specs.GoesOnLaws.{pool_is_kept}
+use Rattle.mg_engine_steps.specs.Known.{IsShown}
+use Rattle.mg_engine_steps.specs.ListShows.{tips_stay_on}
+use Rattle.mg_engine_steps.specs.Midway.{GoesBack, IsMidway}
+use Rattle.mg_engine_steps.specs.Outs.{GoesWhole, RowsGone}
+use Rattle.mg_engine_steps.specs.RowsLeft.{rows_on}
+use Rattle.mg_engine_steps.specs.Standing.{Remembers, Standing}
+use Rattle.mg_engine_steps.specs.TablesBack.{AreRowsLeft, StoodBefore, TablesGoOn}
+use Rattle.mg_engine_steps.specs.Walking.{AreToCome, WalkPlace}
+use Rattle.mg_grown_catalogs.specs.Grown.{CatalogGrows}
+use Rattle.mg_header.specs.HeaderPage.{header_in}
+use Rattle.mg_image.specs.Form.{Pages, packed_form}
+use Rattle.mg_image.specs.Records.{Reading, shown as shown_row, writer}
+use Rattle.mg_image.specs.Sound.{IsSoundBy}
+use Rattle.mg_image.specs.Tables.{Layout}
+use Rattle.mg_image.specs.declared.entry.Entry.{Entry as Read}
+use Rattle.mg_image_overlays.specs.KeptImages.{IsKept}
+use Rattle.mg_image_overlays.specs.OneLayout.{StandsOneWay}
+use Rattle.mg_lasting.specs.PoolLaws.{HoldsOne}
+use Rattle.mg_model.specs.Changes.{KeyedRows}
+use Rattle.mg_model.specs.History.{Entries, Entry}
+use Rattle.mg_model.specs.Legal.{IsLegal, MayBegin}
+use Rattle.mg_model.specs.Openings.{everyone}
+use Rattle.mg_model.specs.declared.change.Change.{Change}
+use Rattle.mg_model.specs.declared.change.Point.{Point}
+use Rattle.mg_model.specs.declared.opening.Opening.{Opening}
+use Rattle.mg_model.specs.declared.table.Table.{Table}
+use Rattle.mg_overlays.specs.Overlays.{left_state}
+use Rattle.mg_pool.specs.Pool.{shown}
+use Rattle.mg_pool.specs.declared.pool.Pool.{Pool}
+use Rattle.mg_pool_overlays.specs.Needs.{Asked, Sessions}
+use Rattle.mg_seek.specs.Walks.{keyed}
+use Rattle.mg_space.specs.declared.links.FireLinks.{FireLinks}
+use Rattle.mg_table_takings.specs.Takings.{TakesTheRows}
+use Rattle.mg_table_unmaking.specs.Tables.{keys_with, keys_without}
+use Rattle.mg_txlist.specs.TxList.{said}
+use Rattle.mg_value.specs.declared.value.Value.{Value}
+
+-- ---- the store
+
+-- the store has gone on, and nothing else has changed
+pub first_taken : {D : Type 0} (m : Meaning D) (t : ℕ) (keys : List Value) (begun old new : Core D) → HasTaken m begun old
+    → TakesFirst m t keys old new → HasTaken m begun new
+first_taken {D} m t keys begun old new taken (no_first its core) = taken
+first_taken {D} m t all begun old new taken (one_first key keys first mid end takes more) =
+    first_taken m t (keys_without key (key ∷ keys)) begun mid end (record {
+      on = on_then m begun.store first.store mid.store taken.on (own_on m first.store mid.store _ takes.takes);
+      pool = takes.takes.changed.pool;
+      same = takes.same ∙ ap (λ (c : Core D). record c { store = mid.store }) taken.same;
+    }) more
+
+-- ---- no row
+
+-- nothing was taken out
+pub nothing_lost : {D : Type 0} (m : Meaning D) → StandsOneWay packed_form → (size : ℕ) (o : Opening) (h : Entries)
+    (e : Entry) (t : ℕ) (s : Standing) (start : Pool D FireLinks) (core : Core D) (i : Image) (asked : Asked)
+    (session : Sessions) (left : List Change)
+    → IsMidway m packed_form size o h e t left s start core.store i asked session → KnowsStore m core.store i
+    → core.store.geometry.size ≡ size → HasLost m size o h e t s start core core i i asked session
+nothing_lost m one_way size o h e t s start core i asked session left midway knows size_is = record {
+  left = left;
+  cache = midway;
+  loses = λ a b r q first second. let once : (a ≡ b) × (r ≡ q) = one_way size (left_state (all_but t) s.state)
+      (shown core.store.dirty i) a b r q first second in
+      (once.0, λ p. inl (ap (λ (x : Reading). x p) (sym once.1)));
+  lists = record {
+    tips = record { tips = λ sequence below. (refl, refl); next = refl; catalog = refl };
+    plain = λ plain. plain;
+  };
+  knows = knows;
+  size_is = size_is;
+  same = refl;
+}
+
+-- ---- one step after another
+
+-- a version that has gone was alone, so its record has nothing to lose any more
+twice_gone : (t : ℕ) (was mid now : List Read) → GoesWhole t was mid → (now ≡ mid) ⊎ GoesWhole t mid now → GoesWhole t was now
+twice_gone t was mid now went (inl same) =
+    record { version = went.version; alone = went.alone; its = went.its; none = same ∙ went.none }
+twice_gone t was mid now went (inr again_) = let both : [] ≡ again_.version ∷ [] = sym went.none ∙ again_.alone in absurd cc
+
+lose_join : (size : ℕ) (state : ℕ → TxState) (t : ℕ) (old mid new : Pages) (c : Layout) (z : Reading)
+    → IsSoundBy packed_form size (left_state (all_but t) state) mid c z → LoseRows size state t old mid
+    → LoseRows size state t mid new → LoseRows size state t old new
+lose_join size state t old mid new c z sound first second a b r q before after = (
+  one_.0 ∙ two.0,
+  λ p. at p (one_.1 p) (two.1 p),
+)
+  where
+    one_ : (a ≡ c) × ((p : RecId) → (z p ≡ r p) ⊎ GoesWhole t (r p) (z p))
+    one_ = first a c r z before sound
+
+    two : (c ≡ b) × ((p : RecId) → (q p ≡ z p) ⊎ GoesWhole t (z p) (q p))
+    two = second c b z q sound after
+
+    at : (p : RecId) → (z p ≡ r p) ⊎ GoesWhole t (r p) (z p) → (q p ≡ z p) ⊎ GoesWhole t (z p) (q p)
+        → (q p ≡ r p) ⊎ GoesWhole t (r p) (q p)
+    at p (inr went) more = inr (twice_gone t (r p) (z p) (q p) went more)
+    at p (inl same) (inl still) = inl (still ∙ same)
+    at p (inl same) (inr went) = inr (subst (λ (es : List Read). GoesWhole t es (q p)) same went)
+
+module _ {D : Type 0} (m : Meaning D) (holds : HoldsOne D m) (go_on : TablesGoOn D FireLinks m)
+    (one_way : StandsOneWay packed_form) (o : Opening) (h : Entries) (e : Entry) (point : Point) (s : Standing)
+    (start : Pool D FireLinks) (asked : Asked) (session : Sessions) (t : ℕ) (opening : MayBegin o)
+    (legal : IsLegal o (e ∷ h)) (grows : CatalogGrows o h) (memory : Remembers o h s)
+    (goes : GoesBack o h e point s asked t) where
+  -- what the rows of one table are to the pages where the transaction counts as dead
+  module _ (size : ℕ) (left later : List Change) (before after : Pool D FireLinks) (i j : Image) (keys : List Value)
+      (midway : IsMidway m packed_form size o h e t left s start before i asked session)
+      (done : IsMidway m packed_form size o h e t later s start after j asked session)
+      (gone : RowsGone packed_form size o (again t left (e ∷ h)) s.state t keys (shown before.dirty i)
+      (shown after.dirty j)) where
+    off : all_but t t ≡ false
+    off = rw (eq-eqb t t refl) refl
+
+    kept : IsKept packed_form size o (again t left (e ∷ h)) (left_state (all_but t) s.state) (shown before.dirty i)
+        (shown before.dirty i)
+    kept = pool_is_kept packed_form D FireLinks size o (again t left (e ∷ h)) s.state asked session before i (all_but t)
+        midway.kept
+
+    then_ : IsKept packed_form size o (again t later (e ∷ h)) (left_state (all_but t) s.state) (shown after.dirty j)
+        (shown after.dirty j)
+    then_ = pool_is_kept packed_form D FireLinks size o (again t later (e ∷ h)) s.state asked session after j (all_but t)
+        done.kept
+
+    loses_so : LoseRows size s.state t (shown before.dirty i) (shown after.dirty j)
+    loses_so a b r q first second =
+        let its : (kept.of_pool ≡ a) × (kept.in_pool ≡ r) = one_way size (left_state (all_but t) s.state)
+        (shown before.dirty i) kept.of_pool a kept.in_pool r kept.pool_sound first in
+        let read = gone (all_but t) off kept b q second in
+        (sym its.0 ∙ read.0, λ p. by p (ap (λ (x : Reading). x p) its.1) (read.1.each p))
+      where
+        by : {B : Type 0} (p : RecId) → kept.in_pool p ≡ r p
+            → (q p ≡ kept.in_pool p) ⊎ (GoesWhole t (kept.in_pool p) (q p) × B)
+            → (q p ≡ r p) ⊎ GoesWhole t (r p) (q p)
+        by p same (inl still) = inl (still ∙ same)
+        by p same (inr (went, key)) = inr (subst (λ (es : List Read). GoesWhole t es (q p)) same went)
+
+    tips_so : (shown after.dirty j 0 ≡ shown before.dirty i 0) → KeepsTips size (shown before.dirty i) (shown after.dirty j)
+    tips_so header =
+        let changes = (gone (all_but t) off kept then_.of_pool then_.in_pool then_.pool_sound).2 in record {
+          tips = changes.stay;
+          next = changes.bits.next;
+          catalog = ap (λ (bytes : List ℕ). (header_in bytes).catalog.0) header;
+        }
+
+  -- the rows of one table, and then those of others
+  module _ (left : List Change) (key : Value) (keys : List Value) (begun mid : Core D) (i : Image)
+      (rows : AreRowsLeft o h e t left (key ∷ keys))
+      (midway : IsMidway m packed_form begun.store.geometry.size o h e t left s start begun.store i asked session)
+      (core : IsCatalog begun.catalog) (state : s.state ≡ said begun.list) (live : s.live ≡ begun.live)
+      (knows : KnowsStore m begun.store i) (catalog : HasCatalog begun begun.store i)
+      (takes : TakesTheRows m begun mid t (keys_with key (key ∷ keys))) where
+    abbrev later : List Change
+    later = without_rows (keys_with key (key ∷ keys)) left
+
+    abbrev one_out : HasTakenRows m s t (keys_with key (key ∷ keys)) begun mid i
+    one_out = first m holds go_on o h e point s start asked session t opening legal grows memory goes left key keys begun mid i rows midway core state live knows catalog takes
+
+    one_turn : IsMidway m packed_form begun.store.geometry.size o h e t (without_rows (keys_with key (key ∷ keys)) left) s
+        start mid.store one_out.image asked session
+        × RowsGone packed_form begun.store.geometry.size o (again t left (e ∷ h)) s.state t (keys_with key (key ∷ keys))
+        (shown begun.store.dirty i) (shown mid.store.dirty one_out.image)
+        × (shown mid.store.dirty one_out.image 0 ≡ shown begun.store.dirty i 0)
+        × StoodBefore begun.store.geometry.size s.state (shown begun.store.dirty i) (shown mid.store.dirty one_out.image)
+    one_turn = turn m holds go_on o h e point s start asked session t opening legal grows memory goes left key keys begun mid i rows midway core state live knows catalog takes
+
+    dead_mid : IsKept packed_form begun.store.geometry.size o
+        (again t (without_rows (keys_with key (key ∷ keys)) left) (e ∷ h)) (left_state (all_but t) s.state)
+        (shown mid.store.dirty one_out.image) (shown mid.store.dirty one_out.image)
+    dead_mid = pool_is_kept packed_form D FireLinks begun.store.geometry.size o
+        (again t (without_rows (keys_with key (key ∷ keys)) left) (e ∷ h)) s.state asked session mid.store one_out.image
+        (all_but t) one_turn.0.kept
+
+    after_one : (end : Core D) (j : Image)
+        → HasLost m mid.store.geometry.size o h e t s start mid end one_out.image j asked session
+        → HasLost m begun.store.geometry.size o h e t s start begun end i j asked session
+    after_one end j lost = by (subst (λ (n : ℕ). HasLost m n o h e t s start mid end one_out.image j asked session)
+        one_out.step.size_is lost)
+      where
+        by : HasLost m begun.store.geometry.size o h e t s start mid end one_out.image j asked session
+            → HasLost m begun.store.geometry.size o h e t s start begun end i j asked session
+        by more = record {
+          left = more.left;
+          cache = more.cache;
+          loses = lose_join begun.store.geometry.size s.state t (shown begun.store.dirty i)
+              (shown mid.store.dirty one_out.image) (shown end.store.dirty j) dead_mid.of_pool dead_mid.in_pool
+              dead_mid.pool_sound
+              (loses_so begun.store.geometry.size left later begun.store mid.store i one_out.image
+              (keys_with key (key ∷ keys)) midway one_turn.0 one_turn.1) more.loses;
+          lists = record {
+            tips = tips_then tips_stay_on begun.store.geometry.size (shown begun.store.dirty i)
+                (shown mid.store.dirty one_out.image) (shown end.store.dirty j)
+                (tips_so begun.store.geometry.size left later begun.store mid.store i one_out.image
+                (keys_with key (key ∷ keys)) midway one_turn.0 one_turn.1 one_turn.2) more.lists.tips;
+            plain = λ plain. more.lists.plain (λ chosen layout q sound table of.
+                let stood = one_turn.3 chosen layout q sound table of in
+                plain chosen stood.layout stood.reading stood.sound table stood.of);
+          };
+          knows = more.knows;
+          size_is = more.size_is;
+          same = more.same ∙ ap (λ (c : Core D). record c { store = end.store }) takes.same;
+        }
+
+  -- those of the first tables
+  pub rows_lost : (left : List Change) (keys : List Value) (old new : Core D) (i : Image)
+      → AreRowsLeft o h e t left keys
+      → IsMidway m packed_form old.store.geometry.size o h e t left s start old.store i asked session
+      → IsCatalog old.catalog → s.state ≡ said old.list → s.live ≡ old.live → KnowsStore m old.store i
+      → HasCatalog old old.store i → TakesFirst m t keys old new
+      → (j : Image) × HasLost m old.store.geometry.size o h e t s start old new i j asked session
+  rows_lost left keys old new i rows midway core state live knows catalog (no_first its it) =
+      (i, nothing_lost m one_way it.store.geometry.size o h e t s start it i asked session left midway knows refl)
+  rows_lost left all old new i rows midway core state live knows catalog (one_first key keys begun mid end takes more) =
+      let rest = rows_lost (without_rows (keys_with key (key ∷ keys)) left) (keys_without key (key ∷ keys)) mid end
+      (one_out left key keys begun mid i rows midway core state live knows catalog takes).image
+      (rows_on o h e t left key (key ∷ keys) rows)
+      (midway_mid m holds go_on o h e point s start asked session t opening legal grows memory goes left key keys begun mid i rows midway core state live knows catalog takes)
+      (core_mid m holds go_on o h e point s start asked session t opening legal grows memory goes left key keys begun mid i rows midway core state live knows catalog takes)
+      (state_mid m holds go_on o h e point s start asked session t opening legal grows memory goes left key keys begun mid i rows midway core state live knows catalog takes)
+      (live_mid m holds go_on o h e point s start asked session t opening legal grows memory goes left key keys begun mid i rows midway core state live knows catalog takes)
+      (one_out left key keys begun mid i rows midway core state live knows catalog takes).knows
+      (catalog_mid m holds go_on o h e point s start asked session t opening legal grows memory goes left key keys begun mid i rows midway core state live knows catalog takes) more in
+      (rest.0, after_one left key keys begun mid i rows midway core state live knows catalog takes end rest.0 rest.1)
+
+-- ---- walks
+
+-- the walks of others go on where the rows of a dead one go
+module _ (size : ℕ) (state : ℕ → TxState) (s : Standing) (t u : ℕ) (pages later : Pages) (c : Layout) (z : Reading)
+    (sound : IsSoundBy packed_form size (left_state (all_but t) state) later c z)
+    (states : left_state (all_but t) state ≡ left_state everyone s.state) (loses : LoseRows size state t pages later)
+    (not_taken : takes_version s.state s.live u t ≡ false) (table : Table) where
+  none_shown : (version : Read) → writer version ≡ t
+      → keyed table (shown_row (takes_version s.state s.live u) (version ∷ [])) [] ≡ keyed table (shown_row (takes_version s.state s.live u) []) []
+  none_shown version its = rw (ap (takes_version s.state s.live u) its ∙ not_taken) refl
+
+  row_there : (r : Reading) (p : RecId) → (z p ≡ r p) ⊎ GoesWhole t (r p) (z p)
+      → row_at_record (takes_version s.state s.live u) table z p ≡ row_at_record (takes_version s.state s.live u) table r p
+  row_there r p (inl same) = ap (λ (es : List Read). keyed table (shown_row (takes_version s.state s.live u) es) []) same
+  row_there r p (inr went) = ap (λ (es : List Read). keyed table (shown_row (takes_version s.state s.live u) es) []) went.none
+      ∙ (sym (none_shown went.version went.its)
+      ∙ sym (ap (λ (es : List Read). keyed table (shown_row (takes_version s.state s.live u) es) []) went.alone))
+
+  none_behind : (ns : List ℕ) → ns ≡ ns ++ []
+  none_behind [] = refl
+  none_behind (n ∷ ns) = ap (λ (ms : List ℕ). n ∷ ms) (none_behind ns)
+
+  shows_on : (layout : Layout) (r : Reading) → IsSoundBy packed_form size (left_state everyone s.state) pages layout r
+      → (was : IsShown layout table) → ShowsOn size s s later u table layout r was
+  shows_on layout r before was =
+      let lost = loses layout c r z (subst (λ (x : ℕ → TxState). IsSoundBy packed_form size x pages layout r) (sym states)
+      before) sound in record {
+        layout = layout;
+        reading = z;
+        sound = subst (λ (l : Layout). IsSoundBy packed_form size (left_state everyone s.state) later l z) (sym lost.0)
+            (subst (λ (x : ℕ → TxState). IsSoundBy packed_form size x later c z) states sound);
+        is_ = was;
+        same = record {
+          more = [];
+          data_pages = none_behind was.stands.stand.data_pages;
+          rows = λ p has_. row_there r p (lost.1 p);
+          none = λ p has_. absurd has_;
+        };
+      }
+
+  pub walks_past : (after : Option WalkPlace) (rows : KeyedRows) → AreToCome size s pages u table after rows
+      → AreToCome size s later u table after rows
+  walks_past after rows = row_walks_go_on size s s pages later u table after rows shows_on
