@@ -15,8 +15,9 @@ ghost use Rattle.mg_chain.specs.Refusals.{HasShortBody, IsOfOther, RefusesBytes,
 
 use crate::damage::{cell_damage, link_damage, target_damage};
 use mg_base::{Damaged, Disk, GREATEST_LIMIT, PageNo, RecId};
+use mg_heap::hold_data;
 use mg_pool::{Batch, PoolFault};
-use mg_space::{SpaceFault, Store};
+use mg_space::{SpaceFault, Store, lent};
 use mg_version::{Cell, CellFault, Link, Version, read_cell};
 use std::alloc::Global;
 
@@ -54,10 +55,11 @@ pub(crate) fn cell_at<D: Disk>(
         (λ found. found ≡ cells_of (viewed store.old image batch.now) at)
         (RefusesCellAt D.meaning store.new batch.now.pages (viewed store.old image batch.now) at) }
 {
-    let Some(bytes) = mg_heap::cell(store, batch, at)? else {
+    hold_data(store, batch, at.page)?;
+    let Some(bytes) = mg_slots::cell(lent(store, batch, at.page), at.slot) else {
         return Ok(None);
     };
-    Ok(Some(cell_of_bytes(store.alloc(), at.page, bytes.as_slice())?))
+    Ok(Some(cell_of_bytes(store.alloc(), at.page, bytes)?))
 }
 
 /// Where the newest version of a record is.

@@ -19,7 +19,7 @@ use mg_model::{Refusal, Table};
 use mg_pool::{Batch, PoolFault};
 use mg_records::Found;
 use mg_seek::view_step;
-use mg_space::{SpaceFault, Store, page_of};
+use mg_space::{SpaceFault, Store, hold, lent};
 use mg_value::{Key, Row, Value};
 use std::alloc::Global;
 
@@ -140,11 +140,11 @@ fn place_behind<D: Disk>(
         → PlacesBehind D.meaning store.new (shown store.old.dirty image) rec after result }
 {
     let batch = Batch::new(store.alloc());
-    let page = match page_of(store, &batch, rec.page) {
-        Ok(page) => page,
+    match hold(store, &batch, rec.page) {
+        Ok(()) => {}
         Err(fault) => return Err(fault),
-    };
-    let sequence = get_u32(page.as_slice(), SEQUENCE_AT);
+    }
+    let sequence = get_u32(lent(store, &batch, rec.page), SEQUENCE_AT);
     let place = Place { rec, sequence };
     match check_behind(after, place) {
         Ok(()) => Ok(place),

@@ -40,7 +40,7 @@ pub use apart::add_apart;
 pub use changing::{free, least_slot, place};
 pub use laws::{tables_of_layouts_are_walked, walks_of_layouts_meet_no_damage};
 pub use reach::{owner_of, pointers_to};
-pub use reading::cell;
+pub use reading::{cell, hold_data};
 pub use room::page_with_room;
 pub use table::{TablePages, table_pages};
 pub use walk::{is_primary, next, table_data_page};

@@ -56,7 +56,7 @@ pub fn cell<D: Disk>(
 /// # Errors
 ///
 /// As `cell`.
-pub(crate) fn hold_data<D: Disk>(
+pub fn hold_data<D: Disk>(
     store: &mut Store<D>,
     batch: &Batch,
     page: PageNo,

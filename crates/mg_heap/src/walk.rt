@@ -16,12 +16,12 @@ ghost use Rattle.mg_heap.specs.Walk.{FindsRecord, GivesBehind, GivesFrom, GivesN
 
 use crate::lookup::data_page_at;
 use crate::reach::unlisted;
-use crate::reading::data_page;
+use crate::reading::hold_data;
 use mg_base::{Bytes, Damaged, Disk, GREATEST_LIMIT, PageNo, RecId, SEQUENCE_AT, get_u32};
 use mg_image::PRIMARY_VERSION;
 use mg_pool::Batch;
 use mg_slots::{DATA_KIND, GREATEST_SIZE, LEAST_SIZE, cell, slots};
-use mg_space::{SpaceFault, Store, check_page, page_of};
+use mg_space::{SpaceFault, Store, check_page, lent, page_of};
 use mg_version::ANCHOR;
 
 /// The record behind another in the order of the table's data pages and their slots, or the first
@@ -105,11 +105,13 @@ fn next_after<D: Disk>(
         (RefusesNext D.meaning store.new batch.now.pages (viewed store.old image batch.now) owner.0
         (Some at)) }
 {
-    let page = data_page(store, batch, at.page)?;
-    if let Some(found) = first_record(page.as_slice(), at.page, u32::from(at.slot) + 1) {
+    hold_data(store, batch, at.page)?;
+    let page = lent(store, batch, at.page);
+    if let Some(found) = first_record(page, at.page, u32::from(at.slot) + 1) {
         return Ok(Some(found));
     }
-    first_behind(store, batch, owner, at.page, place_of(page.as_slice()))
+    let place = place_of(page);
+    first_behind(store, batch, owner, at.page, place)
 }
 
 /// The place that a page names, among those of its owner.
@@ -233,8 +235,9 @@ fn first_record(b: &[u8], page: PageNo, from: u32) -> Option<RecId>
     requires { IsDataPage b.now }
     ensures { FindsRecord b.now page.0 from result }
 {
-    for slot in 0..slots(b) {
-        if u32::from(slot) >= from && is_primary(b, slot) {
+    for place in from..u32::from(slots(b)) {
+        let slot = place as u16;
+        if is_primary(b, slot) {
             return Some(RecId { page, slot });
         }
     }

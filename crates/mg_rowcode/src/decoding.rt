@@ -92,7 +92,7 @@ fn read_values(
     ensures ok { IfOk result (λ values. values.items ≡ values_in columns.now flags.now bytes.now) }
     ensures err { IfErr result (λ fault. fault ≡ RowFault.Memory) }
 {
-    let mut values = Vec::new(alloc);
+    let mut values = Vec::with_capacity(alloc, columns.len())?;
     let mut rest = bytes;
     for (i, column) in columns.iter().enumerate() {
         let (front, later) = rest.split_at(column.kind.width());
@@ -120,7 +120,7 @@ fn nearest(alloc: Global, columns: &[Column], bytes: &[u8]) -> Result<Vec<Value>
     ensures err { IfErr result (λ fault. fault ≡ RowFault.Memory) }
 {
     let (bits, rest) = bytes.split_at(columns.len().div_ceil(8));
-    let mut flags = Vec::new(alloc);
+    let mut flags = Vec::with_capacity(alloc, columns.len())?;
     put_flags(columns, bits, &mut flags)?;
     read_values(alloc, columns, &flags, rest)
 }

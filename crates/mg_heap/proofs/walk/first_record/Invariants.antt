@@ -3,5 +3,5 @@ use Rattle.mg_slots.specs.DataPage.{cell_of}
 use Rattle.mg_heap.specs.Walk.{is_primary}
 use Rattle.mg_heap.proofs.walk.first_record.Given as goal
 
-abbrev pub invariant-loop-slot : goal.invariant-loop-slot
-invariant-loop-slot l = (k : ℕ) → l.from ≤ k → k < l.slot → is_primary (cell_of l.b k) ≡ false
+abbrev pub invariant-loop-place : goal.invariant-loop-place
+invariant-loop-place l = (k : ℕ) → l.from ≤ k → k < l.place → is_primary (cell_of l.b k) ≡ false
