@@ -54,7 +54,7 @@ pub fn answer(alloc: Global, table: &Table, bound: &Bound, found: &[Row]) -> Res
             table.shape.key,
             found,
         ),
-        _ => Err(EvalFault::Memory),
+        _ => unreachable!(),
     }
 }
 
