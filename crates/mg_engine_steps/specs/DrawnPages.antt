@@ -9,7 +9,7 @@ use Rattle.mg_careful.specs.declared.graph.Order.{Order}
 use Rattle.mg_header.specs.declared.header.Header.{Header}
 use Rattle.mg_tip.specs.TipPage.{new_tip_page, places, state_in}
 use Rattle.mg_image.specs.Form.{Form, Pages}
-use Rattle.mg_image.specs.Inventory.{bits_state, header_of, inventory_page, last_sequence, next_of, oldest_active_of, settled, state_at, tip_before, tip_page}
+use Rattle.mg_image.specs.Inventory.{bits_state, header_of, inventory_page, last_sequence, next_of, oldest_active_of, oldest_of, settled, state_at, tip_before, tip_page}
 use Rattle.mg_image.specs.Reached.{linked_pages}
 use Rattle.mg_image.specs.ReadingLaws.{RowsAreOne}
 use Rattle.mg_image.specs.Records.{Reading}
@@ -18,6 +18,7 @@ use Rattle.mg_image.specs.Tables.{Has, Layout}
 use Rattle.mg_image_overlays.specs.Begins.{markers_are}
 use Rattle.mg_image_overlays.specs.Frame.{KeepsLinked, frame_sound, tip_kept}
 use Rattle.mg_image_overlays.specs.Grow.{tip_is}
+use Rattle.mg_image_overlays.specs.GrownFacts.{PassesNoDead}
 use Rattle.mg_image_overlays.specs.Kinds.{HasNoSequences}
 use Rattle.mg_image_overlays.specs.Rest.{div_grows}
 use Rattle.mg_image_overlays.specs.Trees.{trees_stay}
@@ -103,6 +104,13 @@ module _ (form : Form) (one : RowsAreOne form.coding) (none : HasNoSequences for
       same : oldest_active_of view ≡ oldest_active_of pool
       same = sym (ap (λ (x : Header). x.oat.0) (raised_is size last pool view raises).2)
 
+  -- the oldest interesting transaction stays, so it passes over nobody
+  none_passed : (last : ℕ) → RaisesHead size pool view last → PassesNoDead state pool view
+  none_passed last raises t above below =
+      let same : oldest_of view ≡ oldest_of pool =
+      sym (ap (λ (x : Header). x.oit.0) (raised_is size last pool view raises).2) in
+      absurd (omega (arith, same, above, below))
+
   -- ---- on the last page
 
   module _ (raises : RaisesHead size pool view (header_of pool).last_tip.0)
@@ -113,7 +121,7 @@ module _ (form : Form) (one : RowsAreOne form.coding) (none : HasNoSequences for
 
     last_sound : IsSoundBy form size state view layout r
     last_sound = number_sound form size state pool view layout r none (trees_stay form size) sound number
-        (none_old (header_of pool).last_tip.0 raises)
+        (none_old (header_of pool).last_tip.0 raises) (none_passed (header_of pool).last_tip.0 raises)
 
     content : (t : ℕ) → t / places size ≤ last_sequence size pool
         → bits_state size view t ≡ bits_state size pool t
@@ -199,7 +207,7 @@ module _ (form : Form) (one : RowsAreOne form.coding) (none : HasNoSequences for
 
     new_sound : IsSoundBy form size state view layout r
     new_sound = page_sound form size state mid view layout r none (trees_stay form size) mid_sound made.page
-        draws off_page (none_old made.page raises)
+        draws off_page (none_old made.page raises) (none_passed made.page raises)
 
     pub kept_tip : (sequence : ℕ) → sequence ≤ last_sequence size pool
         → mid (tip_page size pool sequence) ≡ pool (tip_page size pool sequence)

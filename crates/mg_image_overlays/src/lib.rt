@@ -26,7 +26,8 @@
 //!
 //! Owns: the batches of records as steps of pages, and the laws that each keeps what every overlay has
 //! to be. A version is pushed over a committed one (`Pushes..`), a record gets its first version
-//! (`Adds..`), a record is cut at a committed version (`Cuts..`).
+//! (`Adds..`). And the step of a committed version that comes to lead past some of those behind it, or nowhere
+//! (`skip_at`): whoever collects frees their cells behind it.
 //!
 //! A batch is told by the views of its pages (`PushesPages`: the cell is put, then the slot is turned),
 //! by the orders between them (`OrdersPush`), and by what is known of the record (`FindsRecord`). A
@@ -35,9 +36,9 @@
 //! looked at alone.
 //!
 //! All stands in `specs/`: `QuietSteps`, `DeadSteps` and `Behind` for one page; `PushPart`, `PushKept`
-//! and `PushEvery`; `AddPart` and `AddEvery`; `OwnWrites` for any version of a writer in limbo; `Cut` and
-//! `CutEvery`. There is no program here: each function does nothing,
-//! and its contract is a law.
+//! and `PushEvery`; `AddPart` and `AddEvery`; `OwnWrites` for any version of a writer in limbo; `Skips`
+//! (one image), `SkipFronts` and `SkipShown` (the pool and an overlay), `SkipPart` (the page). There is no program
+//! here: each function does nothing, and its contract is a law.
 //!
 //! # Each sound image holds something: a database, and the changes of its transactions in limbo
 //!
@@ -127,7 +128,7 @@ pub use new_tables::{made_tables_keep, makers_name_more, rows_name_more};
 pub use own::{dead_versions_go, moves_keep, replacements_keep, taking_back_keeps};
 pub use owners::owners_keep_stands_apart;
 pub use pages::{draws_keep, grown_tables_keep, new_tables_keep};
-pub use records::{cuts_keep, first_versions_keep, pushes_keep};
+pub use records::{first_versions_keep, pushes_keep};
 pub use stands::{data_pages_leave, tables_are_one};
 pub use steps::{bits_stay_sound, commits_stay_sound, tables_have_makers};
 pub use taken::{data_pages_keep, draws_with_a_page_keep, pointer_pages_keep};

@@ -11,8 +11,8 @@
 //! a newest version of a dead transaction does not count, so a writer who counts as dead changes
 //! nothing of it (`QuietVersions`).
 //!
-//! All stands in `specs/`. Of records: `Fronts`, `TableOwners`, `QuietVersions`, `Cuts`, `CutShown`,
-//! `CutFronts`, `Gone`, `Relink`, `Push`, `PushWhole`, `CommitHeld`. Of pages: `DataPages`, `DataSound`,
+//! All stands in `specs/`. Of records: `Fronts`, `TableOwners`, `QuietVersions`, `Thins`, `Skips`, `SkipFronts`,
+//! `SkipShown`, `Gone`, `Relink`, `Push`, `PushWhole`, `CommitHeld`. Of pages: `DataPages`, `DataSound`,
 //! `Rest`, `Frame`, `Growth`, `Grow`, `Bits`, `Kinds`, `Trees`. Of both: `CommitSound`.
 
 ghost use Rattle.mg_image.specs.Form.{packed_form};

@@ -1,7 +1,7 @@
 //! A transaction that has not ended, and its base.
 
 ghost use Rattle.std.specs.Prelude.{ℕ, ◌≡◌, ◌==◌, ◌<◌, ◌≤◌, ◌+◌, ◌++◌, ◌∷◌, [], length, take, vec_len, Some, None, OnOk};
-ghost use Rattle.mg_snap.specs.Live.{base_sees, is_among as is_among_numbers, misses as misses_of, rebased, undecided};
+ghost use Rattle.mg_snap.specs.Live.{base_sees, is_among as is_among_numbers, misses as misses_of, rebased, undecided, wants_older as wants_older_of};
 ghost use Rattle.mg_snap.specs.Room.{IsWide, Roomy, entered_of, snapshot_of};
 
 use mg_base::{Memory, TxNo};
@@ -152,6 +152,16 @@ impl Entry {
     {
         match &self.base {
             Some(base) => !base.sees(by),
+            None => false,
+        }
+    }
+
+    /// Tells whether the transaction has a base that sees the older one of two and not the newer one.
+    pub fn wants_older(&self, newer: TxNo, older: TxNo) -> bool
+        ensures { result ≡ wants_older_of newer.0 older.0 (entered_of self.now) }
+    {
+        match &self.base {
+            Some(base) => base.sees(older) && !base.sees(newer),
             None => false,
         }
     }

@@ -1,7 +1,7 @@
 //! The transactions that have not ended.
 
 ghost use Rattle.std.specs.Prelude.{◌≡◌, true, ℕ, ◌-◌, ◌+◌, ◌^◌, ◌<◌, ◌≤◌, ◌++◌, ◌∷◌, [], length, map, filter, IfOk, OnOk, OnErr};
-ghost use Rattle.mg_snap.specs.Live.{MayEnter, has_ended, after_enter, after_leave, after_limbo, after_rebase, after_retract, all_see as all_see_in, is_among as is_among_numbers, rebased, sees as sees_of, undecided, unended_in};
+ghost use Rattle.mg_snap.specs.Live.{MayEnter, has_ended, after_enter, after_leave, after_limbo, after_rebase, after_retract, all_see as all_see_in, is_among as is_among_numbers, needed as needed_in, rebased, sees as sees_of, undecided, unended_in};
 ghost use Rattle.mg_snap.specs.Room.{AreWide, all_entered, has_other_number, is_other};
 
 use crate::base::{Base, Entry, is_among};
@@ -196,5 +196,18 @@ impl Live {
             }
         }
         true
+    }
+
+    /// Tells whether some base sees the older one of two transactions and not the newer one: a version of
+    /// the older one, right behind a version of the newer one, is then read by somebody.
+    pub fn needed(&self, newer: TxNo, older: TxNo) -> bool
+        ensures { result ≡ needed_in self.now newer.0 older.0 }
+    {
+        for entry in &self.entries {
+            if entry.wants_older(newer, older) {
+                return true;
+            }
+        }
+        false
     }
 }

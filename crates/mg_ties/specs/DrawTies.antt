@@ -8,13 +8,13 @@ use Rattle.mg_base.specs.Disk.{Meaning}
 use Rattle.mg_base.specs.Image.{Image}
 use Rattle.mg_base.specs.declared.geometry.Geometry.{Geometry}
 use Rattle.mg_base.specs.declared.transaction.TxState.{TxState}
-use Rattle.mg_base.specs.declared.transaction.TxState.TheVariants.{Active, Limbo}
+use Rattle.mg_base.specs.declared.transaction.TxState.TheVariants.{Active, Committed, Limbo}
 use Rattle.mg_careful.specs.declared.graph.Order.{Order}
 use Rattle.mg_header.specs.HeaderPage.{database_checks, page_checks}
 use Rattle.mg_header.specs.HeaderPageLaws.{reading_ok}
 use Rattle.mg_header.specs.declared.header.Header.{Header}
 use Rattle.mg_image.specs.Form.{Form, Pages}
-use Rattle.mg_image.specs.Inventory.{header_of, inventory_page, is_used, last_sequence, next_of, oldest_active_of, tip_before, tip_page}
+use Rattle.mg_image.specs.Inventory.{header_of, inventory_page, is_used, last_sequence, next_of, oldest_active_of, oldest_of, tip_before, tip_page}
 use Rattle.mg_image.specs.Sound.{IsUndrawn}
 use Rattle.mg_image_overlays.specs.Kinds.{HasNoSequences}
 use Rattle.mg_image_overlays.specs.KeptImages.{IsKept, keeping}
@@ -86,7 +86,6 @@ draws_number size old new raises others room =
       others = others;
       next = omega (arith, next);
       room = room;
-      oldest = sym (ap (λ (h : Header). h.oit.0) is.2);
       tip = sym (ap (λ (h : Header). h.last_tip.0) is.2);
       catalog = sym (ap (λ (h : Header). h.catalog.0) is.2);
       len = raises.len;
@@ -208,7 +207,6 @@ module _ (g : Geometry) (lawful : IsGeometry g) (pool taken view : Pages) (page 
           others = λ m ne. sym (header_else view pool m ne);
           next = omega (arith, next);
           more = more;
-          oldest = sym (ap (λ (h : Header). h.oit.0) is.2);
           tip = sym (ap (λ (h : Header). h.last_tip.0) is.2);
           before = ap prev_in mid_page ∙ (new_page_prev g.size page seq last (omega (arith, long)) small_last
               ∙ last_is);
@@ -293,6 +291,15 @@ module _ (form : Form) (none : HasNoSequences form) {D L : Type 0} (m : Meaning 
       same = ap (λ (pages : Pages). oldest_active_of pages) it.pool
           ∙ sym (ap (λ (x : Header). x.oat.0) (raised_is size last pool view raises).2)
 
+  -- the oldest interesting one stays, so it passes over nobody
+  none_passed : (last : ℕ) → RaisesHead size pool view last → (t : ℕ)
+      → oldest_of pool ≤ t → t < oldest_of (cache_over after j).pool → state t ≡ Committed
+  none_passed last raises t above below =
+      let same : oldest_of (cache_over after j).pool ≡ oldest_of pool =
+      ap (λ (pages : Pages). oldest_of pages) it.pool
+      ∙ sym (ap (λ (x : Header). x.oit.0) (raised_is size last pool view raises).2) in
+      absurd (omega (arith, same, above, below))
+
   by_page : (page : Option TipPage) (os : List Order) → DrawsOn before.geometry (next_said old) pool view page os
       → AddsPage old new page → batch.orders ≡ os
       → KeptIn form size o h state asked session after j
@@ -303,7 +310,8 @@ module _ (form : Form) (none : HasNoSequences form) {D L : Type 0} (m : Meaning 
       (subst (DrawsNumber size pool) (sym it.pool) (draws_number size pool view raises others
       (same_last old new size pool view from.was from.now from.adds from.size from.next
       (raised_next size (header_of pool).last_tip.0 pool view raises) adds_page)))
-      (oldest_stays (header_of pool).last_tip.0 raises) every
+      (oldest_stays (header_of pool).last_tip.0 raises)
+      (none_passed (header_of pool).last_tip.0 raises) every
   by_page page os (on_new made taken takes bytes_are there raises others) adds_page orders_are =
       draw_page_every form none size o h state (cache_over before i) (cache_over after j)
       (with_header view pool) it.gone (content_in batch.pages) (lists batch.orders)
@@ -318,7 +326,7 @@ module _ (form : Form) (none : HasNoSequences form) {D L : Type 0} (m : Meaning 
             (inventory_page size (region_of size made.page))
             (last_orders size made.page (header_of pool).last_tip.0));
         bits_in = has_bits;
-      }) (oldest_stays made.page raises) every
+      }) (oldest_stays made.page raises) (none_passed made.page raises) every
     where
       more : last_sequence size view ≡ suc (last_sequence size pool)
       more = next_last old new size pool view from.was from.now from.adds from.size from.next
