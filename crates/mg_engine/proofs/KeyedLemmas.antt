@@ -1,9 +1,10 @@
 -- A row that was asked for by its key is the one that the history tells, and nothing else comes of the call.
-use Rattle.std.proofs.Common.{◌≡◌, inl, inr, ◌<◌, ◌^◌, cond, ℕ, Bool, true, false, List, Option, None, Some, Result, Ok, Err, refl, sym, ap, ◌∙◌, subst, arith}
-use Rattle.std.specs.Prelude.{IfOk}
+use Rattle.std.proofs.Common.{◌≡◌, inl, inr, ◌<◌, ◌^◌, cond, ℕ, Bool, true, false, List, [], ◌∷◌, Option, None, Some, Result, Ok, Err, refl, sym, ap, ◌∙◌, subst, arith}
+use Rattle.std.specs.Prelude.{IfOk, OnOk, get_or, if◌then◌else◌}
 use Rattle.mg_base.specs.Disk.{Meaning}
 use Rattle.mg_base.specs.declared.numbers.RecId.{RecId}
 use Rattle.mg_base.specs.declared.numbers.TxNo.{TxNo}
+use Rattle.mg_base.specs.declared.transaction.TxState.{TxState}
 use Rattle.mg_base.specs.declared.transaction.TxState.TheVariants.{Active}
 use Rattle.mg_core.specs.declared.parts.Core.{Core}
 use Rattle.mg_core.specs.declared.scanning.Place.{Place}
@@ -22,12 +23,21 @@ use Rattle.mg_engine_meaning.specs.Standings.{ShowsIt, StandsFor, standing_of}
 use Rattle.mg_engine_meaning.specs.StepLaws.{refused_none, shows_of}
 use Rattle.mg_engine_meaning.specs.Steps.{AddsNone, ReadsGoOn}
 use Rattle.mg_engine_steps.specs.AnswersLaws.{NothingAtKeys, RowsAtKeys, SpeakersAreTold, TellsSpeaker}
-use Rattle.mg_engine_steps.specs.Known.{IsShown, KnowsPages, seen_is_shown}
-use Rattle.mg_image.specs.Form.{Row}
+use Rattle.mg_engine_steps.specs.KeyAnswers.{has_speaker}
+use Rattle.mg_engine_steps.specs.Known.{IsShown, KnowsPages, facts_shown, seen_is_shown, speaker_of}
+use Rattle.mg_engine_steps.specs.Standing.{Standing}
+use Rattle.mg_generations.specs.Generations.{sees, shown_by}
+use Rattle.mg_generations.specs.Laws.{ChainsShowViews}
+use Rattle.mg_image.specs.declared.entry.Entry.{Entry}
+use Rattle.mg_image.specs.Form.{Pages, Row, packed_coding}
+use Rattle.mg_image.specs.Held.{told_row}
+use Rattle.mg_image.specs.RecordRules.{Each, Facts, IsVersion}
+use Rattle.mg_image.specs.Records.{key_of, record_key, writer}
+use Rattle.mg_image_overlays.specs.Fronts.{is_dead, living}
 use Rattle.mg_model.specs.declared.opening.Opening.{Opening}
 use Rattle.mg_model.specs.declared.refusal.Refusal.{Refusal}
 use Rattle.mg_model.specs.declared.table.Table.{Table}
-use Rattle.mg_model.specs.Answers.{catalog_of, told}
+use Rattle.mg_model.specs.Answers.{catalog_of, is_active, told}
 use Rattle.mg_model.specs.Catalog.{catalog_name, shape_said, table_key}
 use Rattle.mg_model.specs.Changes.{Cells, row_at, same_name}
 use Rattle.mg_model.specs.History.{Entries}
@@ -49,10 +59,12 @@ use Rattle.mg_records.specs.Sessions.{SessionsStay}
 use Rattle.mg_records.specs.declared.write.Write.TheVariants as writes
 use Rattle.mg_row_writes.specs.Finding.{IsRowAt, IsSeenIn}
 use Rattle.mg_row_writes.specs.declared.finding.RowAt.{RowAt}
-use Rattle.mg_seek.specs.Histories.{told_if}
-use Rattle.mg_tending.specs.Keyed.{IsSeenAt}
+use Rattle.mg_seek.specs.Histories.{HasSpeaker, told_all, told_if, told_versions}
+use Rattle.mg_tending.specs.Keyed.{HaveTheirKeys, IsSeenAt}
 use Rattle.mg_txlist.specs.TxList.{said}
+use Rattle.mg_value.specs.declared.shape.Shape.{Shape}
 use Rattle.mg_value.specs.declared.value.Value.{Value}
+use Rattle.mg_value.specs.declared.value.Value.TheVariants.{Null}
 use Rattle.mg_works.specs.Works.{AreApart, given_to}
 
 -- What is known of engines of which a row is asked for.
@@ -61,6 +73,7 @@ pub record KeyParts {D : Type 0} (m : Meaning D) : Type 0 where
   pub speakers : SpeakersAreTold
   pub rows : RowsAtKeys
   pub nothing : NothingAtKeys
+  pub views : ChainsShowViews
   pub begin : OpeningsBegin
   pub found : RowsAreFound m
   pub records : SoundRecordsAreLawful
@@ -70,6 +83,35 @@ pub record KeyParts {D : Type 0} (m : Meaning D) : Type 0 where
 told_same : (table : Table) (row : Option Row) → same_name table.name catalog_name ≡ false → told_if table row ≡ row
 told_same table None apart = refl
 told_same table (Some row) apart = rw apart refl
+
+-- ---- rows have their keys
+
+-- the key of a row that versions of a record show is the record's
+key_told : (f : Facts) (counts : ℕ → Bool) (table : Table) (key : Value) (es : List Entry) (row : Row)
+    → same_name table.name catalog_name ≡ false → Each (IsVersion packed_coding f table key) es
+    → shown_by counts (told_all table es) ≡ Some row → key_of table row ≡ key
+key_told f counts table key [] row apart each is = absurd cc
+key_told f counts table key (e ∷ es) row apart each is = at (counts (writer e)) e.version.deleted is
+    (λ more. key_told f counts table key es row apart each.1 more)
+  where
+    plain : told_row table e.row ≡ e.row
+    plain = rw apart refl
+
+    at : (b d : Bool) → (if b then (if d then None else Some (told_row table e.row))
+        else shown_by counts (told_all table es)) ≡ Some row
+        → (shown_by counts (told_all table es) ≡ Some row → key_of table row ≡ key) → key_of table row ≡ key
+    at true true none more = absurd cc
+    at true false some more =
+        let same : told_row table e.row ≡ row = cc in ap (key_of table) (sym same ∙ plain) ∙ each.0.keyed
+    at false d later more = more later
+
+each_living : (P : Entry → Type 0) (state : ℕ → TxState) (es : List Entry) → Each P es → Each P (living state es)
+each_living P state [] each = tt
+each_living P state (e ∷ es) each = at (is_dead (state (writer e)))
+  where
+    at : (b : Bool) → Each P (if b then es else e ∷ es)
+    at true = each.1
+    at false = each
 
 module _ {D : Type 0} (m : Meaning D) (parts : KeyParts m) (places : Places Place) (old : Core D) (t : TxNo)
     (table : Table) (key : Value) (given : given_to old.works t.0 table.name ≡ Some table) where
@@ -121,6 +163,50 @@ module _ {D : Type 0} (m : Meaning D) (parts : KeyParts m) (places : Places Plac
             (standing_of old stands.numbers stands.tables) (shown old.store.dirty shows.image) knows table key r t row
             table_there speaks active is ∙ told_same table row not_catalog)
 
+    -- ---- each row stands under the key that it has
+
+    abbrev size : ℕ
+    size = old.store.geometry.size
+
+    abbrev standing : Standing
+    standing = standing_of old stands.numbers stands.tables
+
+    abbrev pages : Pages
+    pages = shown old.store.dirty shows.image
+
+    abbrev its : Table
+    its = table_there.its
+
+    abbrev f : Facts
+    f = facts_shown size o h standing pages knows
+
+    apart : same_name its.name catalog_name ≡ false
+    apart = ap (λ (n : List ℕ). same_name n catalog_name) table_there.same.name ∙ not_catalog
+
+    -- the record that speaks for a key has the key, and so has the row that is seen of it
+    own_of : (k : Value) (row : Cells) (x : Option RecId)
+        → HasSpeaker o h f knows.shows.reading its k x
+        → row_at (view o h t.0) its.name k ≡ Some row → get_or row its.shape.key Null ≡ k
+    own_of k row None has is =
+        let nothing : None ≡ Some row = sym (parts.views o h its.name k [] t.0 (has.none refl) (ap is_active active)) ∙ is in
+        absurd cc
+    own_of k row (Some rec) has is =
+        let spoken = has.some rec refl in
+        key_told f (sees (told o h) t.0) its (record_key its (knows.shows.reading rec))
+        (living f.state (knows.shows.reading rec)) row apart
+        (each_living (IsVersion packed_coding f its (record_key its (knows.shows.reading rec))) f.state
+        (knows.shows.reading rec) (knows.shows.sound.records.each rec its spoken.0).each)
+        (sym (parts.views o h its.name k (told_versions f.state its (knows.shows.reading rec)) t.0 spoken.2
+        (ap is_active active)) ∙ is) ∙ spoken.1
+
+    own_key : (k : Value) (row : Cells) → row_at (view o h t.0) table.name k ≡ Some row
+        → get_or row table.shape.key Null ≡ k
+    own_key k row is =
+        ap (λ (s : Shape). get_or row s.key Null) (sym table_there.same.shape)
+        ∙ own_of k row (speaker_of size o h standing pages knows its.name k)
+        (has_speaker size o h standing pages knows its table_there.stands k)
+        (ap (λ (n : List ℕ). row_at (view o h t.0) n k) table_there.same.name ∙ is)
+
     tables : m.tells old.store.disk ≡ true → ShowsTable m old shows.image table
     tables told_ = shown_table parts.records parts.stand m old o h
         (standing_of old stands.numbers stands.tables) shows told_ table table_there
@@ -134,6 +220,7 @@ module _ {D : Type 0} (m : Meaning D) (parts : KeyParts m) (places : Places Plac
         finds = λ o h stands active_. is.is ∙ row_is o h stands is.continues is.found (is.reads.told
             (shows o h stands is.continues).image
             (record { told = stands.tells; held = (shows o h stands is.continues).held }));
+        keyed = λ o h stands active_ k row there. own_key o h stands is.continues k row there;
         answers = λ o h stands. sym ((memory_of m old o h stands).state t.0) ∙ is.continues.1;
         reads = both.0;
         crash = both.1;
@@ -165,6 +252,7 @@ module _ {D : Type 0} (m : Meaning D) (parts : KeyParts m) (places : Places Plac
       refused_none m places old t.0 refusal None refuses in
       record {
         finds = tt;
+        keyed = tt;
         answers = none.answers;
         reads = none.reads;
         crash = none.crash;
@@ -180,6 +268,7 @@ module _ {D : Type 0} (m : Meaning D) (parts : KeyParts m) (places : Places Plac
       → GivesRow m places old new t table key (Err refusal)
   fails counts new refusal is = record {
     finds = tt;
+    keyed = tt;
     answers = λ o h stands. outer.refused o h t.0;
     reads = subst (λ (c : Core D). Reads (means m places) old c (Some refusal) None) (sym is.fails.same) both.0;
     crash = subst (λ (c : Core D). LeavesQuietly (means m places) old c) (sym is.fails.same) both.1;
@@ -255,3 +344,9 @@ pub finds_with : {R P : Type 0} (m : Means R P) (old : R) (t : ℕ) (name : List
     → IfOk result (IsSeenAt (with_room m) old t name key)
 finds_with m old t name key (Ok row) finds = λ o h has active. finds o h has.stands active
 finds_with m old t name key (Err refusal) finds = tt
+
+pub keyed_with : {R P : Type 0} (m : Means R P) (old : R) (t : ℕ) (table : Table)
+    (result : Result (Option Cells) Refusal) → OnOk result (HaveTheirKeys m old t table)
+    → OnOk result (HaveTheirKeys (with_room m) old t table)
+keyed_with m old t table (Ok row) keyed = λ o h has active. keyed o h has.stands active
+keyed_with m old t table (Err refusal) keyed = tt

@@ -1,5 +1,5 @@
 -- The row with a key: how the call reads it, and what the engine is to a keeper of records afterwards.
-use Rattle.std.specs.Prelude.{◌≡◌, ◌⊎◌, Option, None, Some, Result, Ok, Err, IfOk}
+use Rattle.std.specs.Prelude.{◌≡◌, ◌⊎◌, Option, None, Some, Result, Ok, Err, IfOk, OnOk}
 use Rattle.mg_base.specs.Disk.{Meaning}
 use Rattle.mg_base.specs.declared.numbers.TxNo.{TxNo}
 use Rattle.mg_core.specs.declared.parts.Core.{Core}
@@ -21,7 +21,7 @@ use Rattle.mg_records.specs.Crashing.{LeavesQuietly}
 use Rattle.mg_records.specs.Keeping.{Reads, refusal_in}
 use Rattle.mg_records.specs.Sessions.{SessionsStay}
 use Rattle.mg_row_writes.specs.declared.finding.RowAt.{RowAt}
-use Rattle.mg_tending.specs.Keyed.{IsSeenAt}
+use Rattle.mg_tending.specs.Keyed.{HaveTheirKeys, IsSeenAt}
 use Rattle.mg_value.specs.declared.value.Value.{Value}
 use Rattle.mg_works.specs.Works.{given_to}
 
@@ -54,6 +54,7 @@ AnswersKey m old new t table key (Err refusal) = (RefusesCall old t.0 refusal ×
 pub record GivesRow {D : Type 0} (m : Meaning D) (places : Places Place) (old new : Core D) (t : TxNo) (table : Table)
     (key : Value) (result : Result (Option Cells) Refusal) : Type 0 where
   pub finds : IfOk result (IsSeenAt (means m places) old t.0 table.name key)
+  pub keyed : OnOk result (HaveTheirKeys (means m places) old t.0 table)
   pub answers : AnswersAll (means m places) old t.0 result
   pub reads : Reads (means m places) old new (refusal_in result) None
   pub crash : LeavesQuietly (means m places) old new

@@ -13,6 +13,7 @@ use mg_base::{Disk, TxNo};
 use mg_core::{Core, Place, StatesOf};
 use mg_engine_meaning::reads_go_on;
 use mg_engine_steps::keys_are_answered;
+use mg_generations::chains_tell;
 use mg_model::{Refusal, Table, histories_go_on};
 use mg_no_damage::{reads_meet_no_damage, sound_images_are_lawful};
 use mg_row_writes::{RowAt, row_at};
@@ -40,6 +41,7 @@ pub(crate) fn keys_go_on<D: Disk>()
 {
     reads_go_on::<D, Place>();
     keys_are_answered();
+    chains_tell();
     histories_go_on();
     reads_meet_no_damage::<D>();
     sound_images_are_lawful();

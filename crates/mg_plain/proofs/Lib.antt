@@ -14,3 +14,4 @@ mod ViewLemmas
 mod ObeyLemmas
 mod SessionLemmas
 mod CallLemmas
+mod OwnKeyLemmas

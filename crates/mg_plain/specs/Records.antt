@@ -1,16 +1,17 @@
 -- The plain machine as a keeper of records: it has no pages, each session may begin a transaction at
 -- any time, and a place is how many of the rows that the transaction sees, in key order, a walk has come
 -- to.
-use Rattle.std.specs.Prelude.{◌≡◌, ℕ, ◌+◌, ◌-◌, ◌<◌, ◌≤◌, true, false, List, [], drop, length, Option, Some, None, Result, Ok, Err, slice_get}
+use Rattle.std.specs.Prelude.{◌≡◌, ℕ, ◌+◌, ◌-◌, ◌<◌, ◌≤◌, Bool, true, false, List, [], ◌∷◌, drop, length, Option, Some, None, Result, Ok, Err, get_or, slice_get, if◌then◌else◌}
 use Rattle.mg_base.specs.declared.memory.Memory.{Memory}
 use Rattle.mg_base.specs.Geometry.{is_page_size}
 use Rattle.mg_base.specs.declared.numbers.TxNo.{TxNo}
 use Rattle.mg_value.specs.declared.shape.Shape.{Shape}
 use Rattle.mg_value.specs.declared.shape.TheConstants.{MOST_COLUMNS}
+use Rattle.mg_value.specs.declared.value.Value.TheVariants.{Null}
 use Rattle.mg_model.specs.declared.opening.Opening.{Opening}
 use Rattle.mg_model.specs.declared.refusal.Refusal.{Refusal}
 use Rattle.mg_model.specs.declared.table.Table.{Table}
-use Rattle.mg_model.specs.Changes.{Cells, KeyedRows, rows_of}
+use Rattle.mg_model.specs.Changes.{Cells, KeyedRows, rows_of, same_key}
 use Rattle.mg_model.specs.History.{Entries}
 use Rattle.mg_model.specs.Answers.{catalog_of}
 use Rattle.mg_records.specs.declared.found.Found.{Found}
@@ -101,3 +102,8 @@ abbrev pub FoundAt : KeyedRows → ℕ → Result (Option (Found ℕ)) Memory �
 FoundAt rows at (Ok None) = None ≡ slice_get rows at
 FoundAt rows at (Ok (Some found)) = (found.place ≡ at + 1) × (found.row ≡ slice_get rows at) × (at < length rows)
 FoundAt rows at (Err memory) = Unit {0}
+
+-- each row stands under the value that it has at a place
+abbrev pub stand_under : ℕ → KeyedRows → Bool
+stand_under place [] = true
+stand_under place (r ∷ rows) = if same_key (get_or r.1 place Null) r.0 then stand_under place rows else false

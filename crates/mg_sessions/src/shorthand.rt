@@ -64,7 +64,7 @@ where
 }
 
 /// Obeys `@get key`.
-pub(crate) fn obey_get<R: Statements>(
+pub(crate) fn obey_get<R: Serves>(
     r: &mut R,
     alloc: Global,
     sessions: &mut Sessions<R::Run>,

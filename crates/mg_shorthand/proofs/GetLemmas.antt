@@ -78,7 +78,7 @@ steps_selecting sel (writes_page written) = absurd sel
 steps_selecting sel (writes_no_page refusal is) = absurd sel
 steps_selecting sel (commits answer lawful) = absurd sel
 
-runs_selecting : {o : Opening} {t : TxNo} {h after : Entries} {from comes : Comes} → StillSelects from
+pub runs_selecting : {o : Opening} {t : TxNo} {h after : Entries} {from comes : Comes} → StillSelects from
     → Runs o t h from after comes → (state_of o after t.0 ≡ state_of o h t.0) × StillSelects comes
 runs_selecting sel (waits_now on course) = absurd sel
 runs_selecting sel (ends_now reply) = (refl, tt)

@@ -3,3 +3,5 @@ mod NameLemmas
 mod PutLemmas
 mod TreeLemmas
 mod GetLemmas
+mod ValueLemmas
+mod ReadingLemmas

@@ -1,9 +1,11 @@
 //! The line `@get`.
 
-ghost use Rattle.std.specs.Prelude.{◌≡◌, ◌∷◌, [], ℕ, ℤ, IfOk, None, codes, map, true, false};
+ghost use Rattle.std.specs.Prelude.{◌≡◌, ◌∷◌, [], ℕ, ℤ, IfOk, None, Some, codes, map, true, false};
 ghost use Rattle.mg_model.specs.declared.opening.Opening.{Opening};
 ghost use Rattle.mg_model.specs.History.{Entries};
 ghost use Rattle.mg_model.specs.Machine.{mode_of};
+ghost use Rattle.mg_model.specs.NewDatabase.{kv_name};
+ghost use Rattle.mg_records.specs.Reading.{shape_seen};
 ghost use Rattle.mg_expr.specs.Trees.{Compare as CompareTree, Integer as IntegerTree, Name as NameTree, tree_of};
 ghost use Rattle.mg_statements.specs.Plain.{plain_of};
 ghost use Rattle.mg_transcript.specs.Courses.{Begun};
@@ -16,20 +18,22 @@ ghost use Rattle.mg_shorthand.specs.Replies.{at_end as at_end_of, fault_in as fa
 
 use crate::giving_up::{give_up, give_up_for};
 use crate::putting::kv;
+use crate::reading::{has_key_and_value, value_at};
 use crate::settling::settle;
 use mg_base::{Memory, TxNo};
 use mg_courses::{Ending, Statements, Stepped, Work, run};
 use mg_expr::{Expr, Sign};
-use mg_model::Refusal;
+use mg_model::{Refusal, Table};
 use mg_rows::StatementFault;
 use mg_script::Reply;
 use mg_statements::Statement;
+use mg_tending::Keyed;
 use mg_value::Name;
 use std::alloc::Global;
 
 /// Does what a get is for, in its transaction, which only reads, and ends that: it reads the value that the table KV
-/// has at the key.
-pub fn get<R: Statements>(r: &mut R, alloc: Global, t: TxNo, size: u32, key: i64) -> Ending
+/// has at the key. Where KV is as a new database has it, no table is walked.
+pub fn get<R: Statements + Keyed>(r: &mut R, alloc: Global, t: TxNo, size: u32, key: i64) -> Ending
 where
     R::Run: Drop,
     requires size { R.meaning.is_size r.old size ≡ true }
@@ -44,7 +48,7 @@ where
 }
 
 // Tests the statement of a get, and runs it.
-fn read<R: Statements>(
+fn read<R: Statements + Keyed>(
     r: &mut R,
     alloc: Global,
     t: TxNo,
@@ -61,13 +65,65 @@ where
     ensures spares { Spares R.meaning r.old r.new t (refusal_answered result.reply) result.over }
 {
     match r.test(alloc, t, true, statement, size) {
-        Ok(tested) => read_on(r, alloc, t, tested),
+        Ok(tested) => read_on(r, alloc, t, key, tested),
         Err(fault) => give_up(r, t, fault),
     }
 }
 
+// The statement was tested, so the table is there: it is asked for.
+fn read_on<R: Statements + Keyed>(
+    r: &mut R,
+    alloc: Global,
+    t: TxNo,
+    key: i64,
+    tested: R::Run,
+) -> Ending
+where
+    R::Run: Drop,
+    requires ready { R.runs.is_ready r.old t tested }
+    ensures goes { (o : Opening) (h : Entries) (size : ℕ)
+        → R.runs.is_at r.old o h t tested (Begun (value_of_key_of key) 0)
+        → fault_seen o h t size (value_of_key_of key) ≡ None
+        → GoesAt R.meaning r.old r.new o h t result.over (λ after. Gets o key size h t after result.reply) }
+    ensures spares { SparesOn R.meaning r.old r.new t None (refusal_answered result.reply) result.over }
+{
+    match r.table(t, &kv()) {
+        Ok(table) => read_in(r, alloc, t, &table, key, tested),
+        Err(refusal) => give_up_for(r, t, refusal),
+    }
+}
+
+// The table was given: where it is as a new database has it, its row is asked for by the key, and else the statement
+// runs.
+fn read_in<R: Statements + Keyed>(
+    r: &mut R,
+    alloc: Global,
+    t: TxNo,
+    table: &Table,
+    key: i64,
+    tested: R::Run,
+) -> Ending
+where
+    R::Run: Drop,
+    requires named { table.now.name ≡ kv_name }
+    requires given { R.meaning.table r.old t.0 table.now.name ≡ Some table.now }
+    requires ready { R.runs.is_ready r.old t tested }
+    ensures goes { (o : Opening) (h : Entries) (size : ℕ)
+        → shape_seen o h t.0 kv_name ≡ Some table.now.shape
+        → R.runs.is_at r.old o h t tested (Begun (value_of_key_of key) 0)
+        → fault_seen o h t size (value_of_key_of key) ≡ None
+        → GoesAt R.meaning r.old r.new o h t result.over (λ after. Gets o key size h t after result.reply) }
+    ensures spares { SparesOn R.meaning r.old r.new t None (refusal_answered result.reply) result.over }
+{
+    if has_key_and_value(&table.shape) {
+        let reply = value_at(r, alloc, t, table, key);
+        return end_reading(r, t, Ending { reply, over: false });
+    }
+    run_through(r, alloc, t, tested)
+}
+
 // Runs the tested statement of a get.
-fn read_on<R: Statements>(r: &mut R, alloc: Global, t: TxNo, tested: R::Run) -> Ending
+fn run_through<R: Statements>(r: &mut R, alloc: Global, t: TxNo, tested: R::Run) -> Ending
 where
     R::Run: Drop,
     requires ready { R.runs.is_ready r.old t tested }

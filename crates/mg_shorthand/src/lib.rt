@@ -7,17 +7,18 @@
 //! that the keeper stood for.
 //!
 //! The definitions stand in `specs/`: `Going` (what calls for an active transaction come to), `Keys` (the row with a
-//! key, and the write of a put).
+//! key, the write of a put, and the reading of a get).
 //!
 //! Invariant: none, it keeps no state.
-//! Below: `mg_tending`, by which a `@put` finds the row of its key, and `mg_courses`, by which the reading of a `@get`
-//! runs. Above: `mg_sessions`, which begins the transaction.
+//! Below: `mg_tending`, by which both find the row of their key, and `mg_courses`, by which the SELECT of a `@get` is
+//! tested, and runs where somebody has made another KV. Above: `mg_sessions`, which begins the transaction.
 //! Not here: which session the transaction is of, and what is printed.
 #![tactic(auto)]
 
 mod getting;
 mod giving_up;
 mod putting;
+mod reading;
 mod serving;
 mod settling;
 

@@ -126,8 +126,8 @@ fn pair(alloc: Global, key: i64, value: i64) -> Result<Row, Memory>
     Ok(Row::new(values))
 }
 
-// A number as a key.
-fn key_of(key: i64) -> Key
+/// A number as a key.
+pub(crate) fn key_of(key: i64) -> Key
     ensures { result ≡ values.Int key }
 {
     Key::new(Value::Int(key)).unwrap()

@@ -10,9 +10,9 @@ use mg_courses::{Ending, Tends};
 use mg_tending::{Keyed, PageWrites};
 use std::alloc::Global;
 
-/// A keeper of records on which statements run, whose changed pages can be written one by one, and which puts rows.
-/// Each keeper whose pages can be written so, and that finds a row by its key, is one.
-pub trait Serves: Tends {
+/// A keeper of records on which statements run, whose changed pages can be written one by one, which finds a row by its
+/// key, and which puts rows. Each keeper whose pages can be written so, and that finds a row by its key, is one.
+pub trait Serves: Tends + Keyed {
     /// Does what a put is for, in its transaction, and ends that: the table KV gets a row with the key and the value,
     /// or the row with the key becomes this one.
     fn put(&mut self, alloc: Global, t: TxNo, key: i64, value: i64) -> Ending

@@ -1,11 +1,15 @@
 //! The plain machine finds a row by its key.
 
-ghost use Rattle.std.specs.Prelude.{◌≡◌, IfOk};
-ghost use Rattle.mg_model.specs.Changes.{row_at};
+ghost use Rattle.std.specs.Prelude.{◌≡◌, IfOk, OnOk, Some, get_or};
+ghost use Rattle.mg_value.specs.declared.value.Value.{Value as AnyValue};
+ghost use Rattle.mg_value.specs.declared.value.Value.TheVariants.{Null};
+ghost use Rattle.mg_model.specs.Changes.{Cells, row_at, same_key as same_key_test};
 ghost use Rattle.mg_plain.specs.Keeping.{told_in};
 ghost use Rattle.mg_plain.specs.Kept.{kept};
+ghost use Rattle.mg_plain.specs.Records.{stand_under as stand_under_place};
 
 use crate::Plain;
+use crate::lookup::same_key;
 use mg_base::{Memory, TxNo};
 use mg_model::{Refusal, Table};
 use mg_tending::Keyed;
@@ -22,6 +26,49 @@ impl Plain {
             None => Ok(None),
         }
     }
+
+    /// The same, where each row of the table stands under the value that it has at a place. Else, as it is with no row
+    /// that was written to fit its table, want of memory is told.
+    fn row_among(
+        &self,
+        t: u32,
+        table: &Name,
+        place: u16,
+        key: &Value,
+    ) -> Result<Option<Row>, Memory>
+        ensures row { IfOk result (λ row.
+            row ≡ row_at ((told_in (kept self.now)).view t) table.now key.now) }
+        ensures keyed { OnOk result ((k : AnyValue) (row : Cells)
+            → row_at ((told_in (kept self.now)).view t) table.now k ≡ Some row → get_or row place Null ≡ k) }
+    {
+        let rows = self.seen_rows(t, table)?;
+        if !stand_under(&rows, place) {
+            return Err(Memory);
+        }
+        self.row_copied(t, table, key)
+    }
+}
+
+/// Tells whether each row stands under the value that it has at a place.
+fn stand_under(rows: &[(Value, Row)], place: u16) -> bool
+    ensures { result ≡ stand_under_place place rows.now }
+{
+    for row in rows {
+        if !stands_under(&row.1, place, &row.0) {
+            return false;
+        }
+    }
+    true
+}
+
+/// Tells whether a row has this value at a place.
+fn stands_under(row: &Row, place: u16, key: &Value) -> bool
+    ensures { result ≡ same_key_test (get_or row.now place Null) key.now }
+{
+    match row.as_slice().get(place as usize) {
+        Some(value) => same_key(value, key),
+        None => same_key(&Value::Null, key),
+    }
 }
 
 impl Keyed for Plain {
@@ -30,7 +77,7 @@ impl Keyed for Plain {
             Ok(()) => {}
             Err(refusal) => return Err(refusal),
         }
-        match self.row_copied(t.0, &table.name, key.value()) {
+        match self.row_among(t.0, &table.name, table.shape.key, key.value()) {
             Ok(row) => Ok(row),
             Err(_) => Err(Refusal::Memory),
         }

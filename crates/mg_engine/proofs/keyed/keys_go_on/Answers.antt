@@ -7,6 +7,7 @@ returns g c = keys_go_on g.D.Disk.meaning (record {
   speakers = c.keys_are_answered.ensures.speakers;
   rows = c.keys_are_answered.ensures.rows;
   nothing = c.keys_are_answered.ensures.nothing;
+  views = c.chains_tell.ensures.views;
   begin = c.histories_go_on.ensures.begins;
   found = c.reads_meet_no_damage.ensures.rows;
   records = c.sound_images_are_lawful.ensures.records;

@@ -1,4 +1,5 @@
-use Rattle.std.proofs.Common.{Bool, true, None, Ok, Err, refl, ap, ◌∙◌, subst}
+use Rattle.std.proofs.Common.{Bool, true, None, Ok, Err, refl, ap, ◌∙◌, subst, w64}
+use Rattle.std.proofs.lemmas.Int.{to_z-of_z}
 use Rattle.mg_statements.specs.Plain.{Plain}
 use Rattle.mg_records.specs.Reading.{shape_seen}
 use Rattle.mg_calls.specs.Quiet.{as_it_was}
@@ -26,6 +27,7 @@ returns-in-Ok-clause-goes g c = λ o h mode stands active.
     (c.in-Ok.ensures.tests o h stands active) in
     let none = ap (λ (b : Bool). fault_of b (shape_seen o h t.0 (table_of (value_of_key key))) size (value_of_key key)) mode
     ∙ tested.1 in
+    let goes = rw (to_z-of_z w64 key c.ranges.key) at c.read_on.ensures.goes in
     went_behind m g.met.R.Records.lasts c.args.r.now mid c.read_on.new.r o h t c.read_on.result.over
     (λ after. Gets o key size h t after c.read_on.result.reply)
     (λ after. Gets o key size h t after c.read_on.result.reply)
@@ -33,7 +35,7 @@ returns-in-Ok-clause-goes g c = λ o h mode stands active.
       stands = tested.0;
       carries = carries_quietly m g.met.R.Records.lasts c.args.r.now mid None o h h c.in-Ok.ensures.quiet stands as_it_was;
     }) (λ after does. does)
-    (c.read_on.ensures.goes o h key size tested.2 none tested.0 active)
+    (goes o h size tested.2 none tested.0 active)
 
 pub returns-in-Ok-clause-spares : goal.returns-in-Ok-clause-spares
 returns-in-Ok-clause-spares g c =

@@ -1,7 +1,7 @@
 use Rattle.mg_records.specs.Keeping.{refusal_in}
 use Rattle.mg_engine.specs.Places.{places}
 use Rattle.mg_engine.proofs.AskedLemmas.{unwritten_as}
-use Rattle.mg_engine.proofs.KeyedLemmas.{finds_with, gives_as, keys_apart}
+use Rattle.mg_engine.proofs.KeyedLemmas.{finds_with, gives_as, keyed_with, keys_apart}
 use Rattle.mg_engine.proofs.ReadLemmas.{may_scan}
 use Rattle.mg_engine.proofs.ToldLemmas.{room_as, told_as, undamaged_as}
 use Rattle.mg_engine.proofs.RoomLemmas.{reads_room}
@@ -27,6 +27,13 @@ returns-clause-finds g c = finds_with (means g.D.Disk.meaning places) c.args.sel
     (gives_as g.D.Disk.meaning c.self.inside.core c.args.self.now c.row_of_key.new.core
     c.self.view_is c.counts_fit.ensures.0 c.counts_fit.ensures.1 c.keys_go_on.ensures c.args.t c.args.table.now
     c.args.key.now c.row_of_key.result c.requires.table c.row_of_key.ensures.answers).finds
+
+pub returns-clause-keyed : goal.returns-clause-keyed
+returns-clause-keyed g c = keyed_with (means g.D.Disk.meaning places) c.args.self.now c.args.t.0 c.args.table.now
+    c.row_of_key.result
+    (gives_as g.D.Disk.meaning c.self.inside.core c.args.self.now c.row_of_key.new.core
+    c.self.view_is c.counts_fit.ensures.0 c.counts_fit.ensures.1 c.keys_go_on.ensures c.args.t c.args.table.now
+    c.args.key.now c.row_of_key.result c.requires.table c.row_of_key.ensures.answers).keyed
 
 pub returns-clause-answers : goal.returns-clause-answers
 returns-clause-answers g c = answers_with (means g.D.Disk.meaning places) c.args.self.now c.args.t.0 c.row_of_key.result
