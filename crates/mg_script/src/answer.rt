@@ -138,8 +138,12 @@ fn put_row_line(session: Session, row: &Row, out: &mut Vec<u8>) -> Result<(), Me
     put_word(out, "\n")
 }
 
-// Appends the values of a row.
-fn put_values(values: &[Value], out: &mut Vec<u8>) -> Result<(), Memory>
+/// Appends the values of a row, with a comma and a blank between neighbours.
+///
+/// # Errors
+///
+/// `Memory` only. Then a part of them may stand in `out`.
+pub fn put_values(values: &[Value], out: &mut Vec<u8>) -> Result<(), Memory>
     ensures ok { OnOk result (out.new.items ≡ out.old.items ++ joined values.now) }
     ensures front { KeepsFront out.old.items out.new.items }
 {

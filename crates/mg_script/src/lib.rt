@@ -24,9 +24,10 @@ mod reply;
 mod script;
 mod splitting;
 
-pub use answer::{answer_text, session_text};
+pub use answer::{answer_text, put_values, session_text};
 pub use laws::lines_say_one_thing;
 pub use line::{Line, LineKind, MOST_STEPS, SESSIONS, Session};
-pub use refusal::refusal_line;
+pub use putting::{put_number, put_word};
+pub use refusal::{put_refusal, refusal_line};
 pub use reply::Reply;
 pub use script::{Script, read_script};

@@ -7,7 +7,11 @@ use itoa::Buffer;
 use mg_base::Memory;
 
 /// Appends a word.
-pub(crate) fn put_word(out: &mut Vec<u8>, word: &str) -> Result<(), Memory>
+///
+/// # Errors
+///
+/// `Memory` only. Then a part of it may stand in `out`.
+pub fn put_word(out: &mut Vec<u8>, word: &str) -> Result<(), Memory>
     ensures ok { OnOk result (out.new.items ≡ out.old.items ++ word.now) }
     ensures front { KeepsFront out.old.items out.new.items }
 {
@@ -16,7 +20,11 @@ pub(crate) fn put_word(out: &mut Vec<u8>, word: &str) -> Result<(), Memory>
 }
 
 /// Appends a number.
-pub(crate) fn put_number(out: &mut Vec<u8>, number: u64) -> Result<(), Memory>
+///
+/// # Errors
+///
+/// `Memory` only. Then a part of it may stand in `out`.
+pub fn put_number(out: &mut Vec<u8>, number: u64) -> Result<(), Memory>
     ensures ok { OnOk result (out.new.items ≡ out.old.items ++ decimal number) }
     ensures front { KeepsFront out.old.items out.new.items }
 {

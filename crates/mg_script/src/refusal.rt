@@ -70,8 +70,12 @@ pub(crate) fn put_fault(out: &mut Vec<u8>, fault: StatementFault) -> Result<(), 
     }
 }
 
-// Appends the text of a refusal of the machine.
-fn put_refusal(out: &mut Vec<u8>, refusal: Refusal) -> Result<(), Memory>
+/// Appends the text of a refusal of the machine.
+///
+/// # Errors
+///
+/// `Memory` only. Then a part of it may stand in `out`.
+pub fn put_refusal(out: &mut Vec<u8>, refusal: Refusal) -> Result<(), Memory>
     ensures ok { OnOk result (out.new.items ≡ out.old.items ++ refusal_text refusal) }
     ensures front { KeepsFront out.old.items out.new.items }
 {

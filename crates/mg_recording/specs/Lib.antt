@@ -1,0 +1,4 @@
+pub mod Backs
+pub mod Making
+pub mod Via
+pub mod ViaLaws

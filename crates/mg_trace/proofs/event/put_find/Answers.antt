@@ -1,0 +1,5 @@
+use Rattle.mg_trace.specs.PuttingLaws.{puts_both}
+use Rattle.mg_trace.proofs.event.put_find.Goals as goal
+
+pub returns : goal.returns
+returns c = puts_both _ _ _ _ _ c.put_named.ensures (puts_both _ _ _ _ _ c.word.ensures c.put_filter.ensures)

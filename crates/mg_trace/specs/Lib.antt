@@ -1,0 +1,5 @@
+pub mod Putting
+pub mod PuttingLaws
+pub mod Text
+pub mod Trees
+pub mod TreeLaws

@@ -1,0 +1,4 @@
+//! Tests of traces.
+
+mod events;
+mod filters;
