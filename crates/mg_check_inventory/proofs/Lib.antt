@@ -1,0 +1,6 @@
+pub mod InventoryLemmas
+pub mod PlaceLemmas
+pub mod TestLemmas
+pub mod TipLemmas
+pub mod TransactionLemmas
+pub mod UsedLemmas

@@ -1,0 +1,3 @@
+pub mod ImagePages
+pub mod InventoryRung
+pub mod TransactionRung
