@@ -230,13 +230,12 @@
 //! | all of a new table | `FillsTable` of mg_table_batch | `FillPays` | `PartKeeps` |
 //! | an own version is replaced, in its cell or not | `Replaces`, `Moves` of mg_chain | | `OverKeeps`, `MoveKeeps` |
 //! | it is taken out | `TakesOut` of mg_chain | | `OutKeeps` |
-//! | rows are taken out, each with its record | `TakesRows` of mg_table_unmaking | `RowsPay` | `RowsBear` |
+//! | rows are taken out in one batch, which pays in steps (`PaysRows`) | | | `RowsBear` |
 //! | a number is drawn | `DrawsOn` of mg_txlist | | `DrawKeeps` |
 //! | the bits of a commit | `CommitsBits` of mg_txlist | | `CommitKeeps` |
 //! | the cache's change of such a batch | `ChangesOverlays` of mg_pool | | `TablesBear`, `NewsBear` |
 //!
 //! No page demands a new table's first pointer page: it is a root, which `FillPays` wants newly (`PaysTable`).
-//! Where rows are taken out, the batch pays and drops once for each (`PaysInSteps` of mg_demands).
 //! There is no program here: each function does nothing, and its contract is a law.
 //!
 //! # Tables: batches and page writes in one run
@@ -325,7 +324,7 @@ pub use table_runs::{
     opened_runs_stay_linked, parts_are_steps, runs_stay_linked, writes_keep_tables,
 };
 pub use tables::{
-    numbers_bear, pointer_pages_stay_orderly, rooms_pay, rows_pay, tables_bear, tables_pay,
+    numbers_bear, pointer_pages_stay_orderly, rooms_pay, rows_bear, tables_bear, tables_pay,
 };
 pub use ties::{
     changes_bear, commits_pay, commits_settle, own_versions_pay, paying_batches_drop_nothing,

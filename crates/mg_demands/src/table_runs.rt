@@ -6,7 +6,7 @@ ghost use Rattle.mg_demands.specs.OpenedRuns.{OpenedStaysLinked};
 ghost use Rattle.mg_demands.specs.TableRuns.{RunsStayLinked, WritesKeepTables};
 
 use crate::{
-    all_is_borne, demands_are_borne, pointer_pages_stay_orderly, rows_pay, runs_bear,
+    all_is_borne, demands_are_borne, pointer_pages_stay_orderly, rows_bear, runs_bear,
     sound_images_are_linked, tables_bear,
 };
 use mg_base::Disk;
@@ -28,7 +28,7 @@ pub fn runs_stay_linked<D: Disk>()
 {
     writes_keep_tables::<D>();
     tables_bear::<D>();
-    rows_pay::<D>();
+    rows_bear::<D>();
     demands_are_borne::<FireLinks>()
 }
 

@@ -7,7 +7,7 @@ ghost use Rattle.mg_demands.specs.NumberTies.{CommitKeeps, DrawKeeps};
 ghost use Rattle.mg_demands.specs.OpenedChains.{OpenedTablesBear};
 ghost use Rattle.mg_demands.specs.OpenedTables.{OpenedIsOrderly, OrderStays};
 ghost use Rattle.mg_demands.specs.PartLaws.{PlacePays, RecordPays, RoomPays, VersionPays};
-ghost use Rattle.mg_demands.specs.UnmakingTies.{RowsBear, RowsPay};
+ghost use Rattle.mg_demands.specs.UnmakingTies.{RowsBear};
 
 use crate::{opened_images_bear, runs_bear, sound_images_are_linked, step_changes_bear};
 use mg_base::Disk;
@@ -27,10 +27,9 @@ pub fn tables_pay<D: Disk>()
     ensures { FillPays D FireLinks }
 {}
 
-/// The batch that takes rows out pays row by row, and drops their versions.
-pub fn rows_pay<D: Disk>()
-    ensures pays { RowsPay D FireLinks }
-    ensures bears { RowsBear D FireLinks D.meaning }
+/// The cache's change of a batch that takes rows out, and pays row by row.
+pub fn rows_bear<D: Disk>()
+    ensures { RowsBear D FireLinks D.meaning }
 {
     step_changes_bear::<D>()
 }

@@ -1,10 +1,10 @@
--- Taking back stops after some keys, and after the rows of some tables: pages were read and then the step was refused, or a
+-- Taking back stops after some keys, and after some rows of the catalog: pages were read and then the step was refused, or a
 -- page write failed.
 use Rattle.std.specs.Prelude.{◌≡◌, ℕ, true, false, List, ◌∷◌, None, Some}
 use Rattle.mg_base.specs.Disk.{Meaning}
 use Rattle.mg_base.specs.Image.{Image}
 use Rattle.mg_engine_steps.specs.Again.{rolling}
-use Rattle.mg_engine_steps.specs.Midway.{IsMidway}
+use Rattle.mg_engine_steps.specs.Midway.{LastsDead}
 use Rattle.mg_engine_changes.specs.RowsLost.{LoseRows}
 use Rattle.mg_image.specs.Inventory.{next_of}
 use Rattle.mg_engine_steps.specs.PageWrites.{KeepAsking}
@@ -29,7 +29,7 @@ use Rattle.mg_space.specs.View.{KeepsStore}
 use Rattle.mg_engine_steps.specs.Following.{FollowsEntry}
 use Rattle.mg_engine_steps.specs.Standing.{Standing, Stands}
 
--- Some keys are taken back, then the rows of some tables, and then pages were only read.
+-- Some keys are taken back, then some rows of the catalog, and then pages were only read.
 pub record StopsReading {D L : Type 0} (m : Meaning D) (o : Opening) (h : Entries) (e : Entry) (point : Point) (t : ℕ)
     (s : Standing) (start stopped : Pool D L) (k j : Image) (asked : Asked) (session : Sessions)
     (begins : BeginsBack m o h e point t s start k asked session) : Type 0 where
@@ -41,8 +41,7 @@ pub record StopsReading {D L : Type 0} (m : Meaning D) (o : Opening) (h : Entrie
       (since_point point (deeds_by t (steps o h))) rest start mid k between
   pub mid_ends : EndsOver m start mid between
   pub at : Pool D L
-  pub left : List Change
-  pub cache : IsMidway m packed_form start.geometry.size o h e t left s start at j asked session
+  pub cache : LastsDead m packed_form start.geometry.size o h t start at asked session
   pub loses : LoseRows start.geometry.size s.state t (shown mid.dirty between) (shown at.dirty j)
   pub next : next_of (shown at.dirty j) ≡ next_of (shown mid.dirty between)
   pub ends : EndsOver m start at j

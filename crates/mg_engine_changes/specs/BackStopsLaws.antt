@@ -1,5 +1,6 @@
 -- Taking back stops after some keys.
-use Rattle.std.proofs.Common.{◌≡◌, ap, sym, subst, ◌∙◌, ℕ, true, false, List, ◌∷◌, None, Some}
+use Rattle.std.proofs.Common.{◌≡◌, ap, refl, sym, subst, ◌∙◌, ℕ, true, false, List, [], ◌∷◌, None, Some}
+use Rattle.std.proofs.lemmas.Bool.{eq-eqb}
 use Rattle.mg_base.specs.Disk.{MayLeave, Meaning}
 use Rattle.mg_base.specs.Image.{Image}
 use Rattle.mg_base.specs.Moments.{joined, leaves_as}
@@ -8,10 +9,10 @@ use Rattle.mg_base.specs.declared.transaction.TxState.{TxState}
 use Rattle.mg_engine_changes.specs.EngineGivenUp.{dead_now, states_now}
 use Rattle.mg_engine_changes.specs.RowsLost.{LoseRows}
 use Rattle.mg_engine_meaning.specs.Falling.{all_but}
-use Rattle.mg_engine_steps.specs.Again.{AreTaken, again, rolling}
+use Rattle.mg_engine_steps.specs.Again.{AreTaken, rolling}
+use Rattle.mg_engine_steps.specs.DeadMidway.{dead_pool, every_from}
 use Rattle.mg_engine_steps.specs.DeadRowsLaws.{dead_rows_go}
-use Rattle.mg_engine_steps.specs.GoesOnLaws.{pool_is_kept}
-use Rattle.mg_engine_steps.specs.Midway.{IsMidway, MidwaysAreGivenUp, MidwaysBegin}
+use Rattle.mg_engine_steps.specs.Midway.{IsMidway, LastsDead, MidwaysAreGivenUp, MidwaysBegin}
 use Rattle.mg_engine_steps.specs.Outs.{GoOrStay}
 use Rattle.mg_engine_steps.specs.PageWrites.{AsksOtherwise}
 use Rattle.mg_image.specs.Inventory.{next_of}
@@ -27,7 +28,7 @@ use Rattle.mg_engine_steps.specs.PageWrites.{KeepAsking}
 use Rattle.mg_engine_changes.specs.GivenUp.{EnginesGiveUp, GivesUp}
 use Rattle.mg_engine_steps.specs.Batches.{ReadsLast}
 use Rattle.mg_engine_changes.specs.Backs.{BeginsBack, EndsOver}
-use Rattle.mg_engine_changes.specs.TakingStepLaws.{read_cache}
+use Rattle.mg_engine_changes.specs.TakingStepLaws.{read_lasts}
 use Rattle.mg_engine_changes.specs.TakingSteps.{KeysGoOn, StandsMidway}
 use Rattle.mg_engine_changes.specs.ToTake.{SinceAreTaken, since_point}
 use Rattle.mg_grown_catalogs.specs.Grown.{CatalogGrows}
@@ -39,7 +40,8 @@ use Rattle.mg_lasting.specs.Lasting.{LastsOn, LeftOn}
 use Rattle.mg_model.specs.History.{Entries, Entry}
 use Rattle.mg_model.specs.Laws.{OpeningsBegin}
 use Rattle.mg_model.specs.Legal.{IsLawful, is_durable}
-use Rattle.mg_model.specs.Machine.{deeds_by, steps}
+use Rattle.mg_model.specs.Machine.{deeds_by, state_of, steps}
+use Rattle.mg_ties.specs.Changed.{KeptIn}
 use Rattle.mg_model.specs.declared.change.Change.{Change}
 use Rattle.mg_model.specs.declared.change.Point.{Point}
 use Rattle.mg_model.specs.declared.opening.Opening.{Opening}
@@ -73,9 +75,9 @@ module _ {D L : Type 0} (m : Meaning D) (since : SinceAreTaken) (begin : Midways
             (shown start.dirty k) begins.stands.shows;
       })
 
-  pub midway : IsMidway m packed_form start.geometry.size o h e t stops.left s start stopped j asked session
-  midway = read_cache m reads start.geometry.size o h e point s start stops.at stopped j asked session t stops.left
-      (openings o begins.stands.opening) begins.stands.legal begins.goes stops.keeps stops.tells
+  pub midway : LastsDead m packed_form start.geometry.size o h t start stopped asked session
+  midway = read_lasts m reads start.geometry.size o h t start stops.at stopped asked session
+      (openings o begins.stands.opening) (begins.goes.ends, begins.stands.legal) stops.keeps stops.tells
       (stops.ends.pool.page_size ∙ stops.ends.size) stops.cache
 
   loses_now : LoseRows start.geometry.size s.state t (shown stops.mid.dirty stops.between) (shown stopped.dirty j)
@@ -108,10 +110,17 @@ module _ {D L : Type 0} (m : Meaning D) (since : SinceAreTaken) (begin : Midways
     states : left_state (all_but t) s.state ≡ left_state everyone new.state
     states = states_now o h refused (rolling t) t s mid new gives
 
-    kept : IsKept packed_form start.geometry.size o (again t stops.left (e ∷ h)) (left_state (all_but t) s.state)
-        (shown stopped.dirty j) (shown stopped.dirty j)
-    kept = pool_is_kept packed_form D L start.geometry.size o (again t stops.left (e ∷ h)) s.state asked session stopped j
-        (all_but t) midway.kept
+    every : KeptIn packed_form start.geometry.size o (rolling t ∷ h) (state_of o (rolling t ∷ h)) asked session stopped j
+    every = subst (λ (n : ℕ). KeptIn packed_form n o (rolling t ∷ h) (state_of o (rolling t ∷ h)) asked session stopped j)
+        ends.size (every_from m packed_form o (rolling t ∷ h) stopped j asked session ends.pool ends.held midway.lasts)
+
+    off : all_but t t ≡ false
+    off = rw (eq-eqb t t refl) refl
+
+    kept : IsKept packed_form start.geometry.size o (e ∷ h) (left_state (all_but t) s.state) (shown stopped.dirty j)
+        (shown stopped.dirty j)
+    kept = dead_pool o h e point s asked t begins.stands.memory begins.goes packed_form start.geometry.size stopped j session
+        [] every (all_but t) off
 
     lost : (given_mid.shows.layout ≡ kept.layout) × GoOrStay t given_mid.shows.reading kept.reading
     lost = loses_now given_mid.shows.layout kept.layout given_mid.shows.reading kept.reading
@@ -128,11 +137,11 @@ module _ {D L : Type 0} (m : Meaning D) (since : SinceAreTaken) (begin : Midways
 
     lasting : LastsOn m packed_form o (rolling t ∷ refused ∷ h) stopped asked session
         × LeavesSince m start.disk stopped.disk (HoldsAcknowledged packed_form start.geometry.size o h)
-    lasting = subst (λ (n : ℕ). IsMidway m packed_form n o h e t stops.left s start stopped j asked session
+    lasting = subst (λ (n : ℕ). LastsDead m packed_form n o h t start stopped asked session
         → LastsOn m packed_form o (rolling t ∷ refused ∷ h) stopped asked session
         × LeavesSince m start.disk stopped.disk (HoldsAcknowledged packed_form n o h)) ends.size
-        (λ cache. midways_given o h e refused s start stopped j asked session t stops.left (ap is_idle gives.nothing)
-        passing no_failure cache) midway
+        (λ cache. midways_given o h refused start stopped asked session t (ap is_idle gives.nothing) passing no_failure
+        cache) midway
 
     pub given_up : Stands packed_form start.geometry.size o (rolling t ∷ refused ∷ h) new
         (Some (shown stopped.dirty j))

@@ -1,5 +1,5 @@
--- What the core takes out of the catalog, table by table, is what the laws take.
-use Rattle.std.specs.Prelude.{◌≡◌, ◌∷◌, ℕ, List, None}
+-- What the core takes out of the catalog, row by row, is what the laws take.
+use Rattle.std.specs.Prelude.{◌≡◌, ℕ, List, None}
 use Rattle.mg_base.specs.Disk.{Meaning}
 use Rattle.mg_base.specs.Image.{Image}
 use Rattle.mg_value.specs.declared.value.Value.{Value}
@@ -12,18 +12,16 @@ use Rattle.mg_space.specs.declared.links.FireLinks.{FireLinks}
 use Rattle.mg_txlist.specs.TxList.{said}
 use Rattle.mg_core.specs.Cores.{IsCatalog}
 use Rattle.mg_core.specs.declared.parts.Core.{Core}
-use Rattle.mg_engine_steps.specs.Midway.{GoesBack, IsMidway}
+use Rattle.mg_engine_steps.specs.Midway.{GoesBack, LastsDead}
 use Rattle.mg_engine_steps.specs.Standing.{Remembers, Standing}
-use Rattle.mg_engine_steps.specs.TablesBack.{AreRowsLeft, TakesEachTable, TakesTheRows as TakesOut}
-use Rattle.mg_grown_catalogs.specs.Grown.{CatalogGrows}
+use Rattle.mg_engine_steps.specs.TablesBack.{TakesEachRow, TakesTheRow as TakesOut}
 use Rattle.mg_image.specs.Form.{packed_form}
 use Rattle.mg_model.specs.History.{Entries, Entry}
 use Rattle.mg_model.specs.Legal.{IsLegal, MayBegin}
-use Rattle.mg_model.specs.declared.change.Change.{Change}
 use Rattle.mg_model.specs.declared.change.Point.{Point}
 use Rattle.mg_model.specs.declared.opening.Opening.{Opening}
 use Rattle.mg_engine_changes.specs.Keys.{HasCatalog}
-use Rattle.mg_table_takings.specs.Takings.{TakesTables}
+use Rattle.mg_table_takings.specs.Takings.{TakesRows}
 
 -- What is known of a store before rows are taken out of it.
 pub record KnowsStore {D : Type 0} (m : Meaning D) (pool : Pool D FireLinks) (i : Image) : Type 0 where
@@ -32,28 +30,27 @@ pub record KnowsStore {D : Type 0} (m : Meaning D) (pool : Pool D FireLinks) (i 
   pub online : pool.offline ≡ None
   pub tells : Tells m pool.disk i
 
--- The rows of a table were taken out: the step is one of the laws, over an image that the disk tells then.
+-- The row of a key was taken out: the step is one of the laws, over an image that the disk tells then.
+pub record HasTakenRow {D : Type 0} (m : Meaning D) (s : Standing) (t : ℕ) (key : Value) (old new : Core D)
+    (i : Image) : Type 0 where
+  pub image : Image
+  pub step : TakesOut m s t key old.store new.store i image
+  pub knows : KnowsStore m new.store image
+
+-- those of several, one after another
 pub record HasTakenRows {D : Type 0} (m : Meaning D) (s : Standing) (t : ℕ) (keys : List Value) (old new : Core D)
     (i : Image) : Type 0 where
   pub image : Image
-  pub step : TakesOut m s t keys old.store new.store i image
-  pub knows : KnowsStore m new.store image
-
--- those of each table, one after another
-pub record HasTakenTables {D : Type 0} (m : Meaning D) (s : Standing) (t : ℕ) (keys : List Value) (old new : Core D)
-    (i : Image) : Type 0 where
-  pub image : Image
-  pub steps : TakesEachTable m s t keys old.store new.store i image
+  pub steps : TakesEachRow m s t keys old.store new.store i image
   pub knows : KnowsStore m new.store image
   pub size_is : new.store.geometry.size ≡ old.store.geometry.size
   pub same : new ≡ record old { store = new.store }
 
--- So the core takes out what the laws take, of a transaction that goes back, whose rows these are.
+-- So the core takes out what the laws take, of a transaction that goes back.
 abbrev pub CoresTakeRows : (D : Type 0) → Meaning D → Type 0
 CoresTakeRows D m = (o : Opening) (h : Entries) (e : Entry) (point : Point) (s : Standing) (start : Pool D FireLinks)
-    (asked : Asked) (session : Sessions) (t : ℕ) (left : List Change) (keys : List Value) (old new : Core D) (i : Image)
-    → MayBegin o → IsLegal o (e ∷ h) → CatalogGrows o h → Remembers o h s → GoesBack o h e point s asked t
-    → AreRowsLeft o h e t left keys
-    → IsMidway m packed_form old.store.geometry.size o h e t left s start old.store i asked session
+    (asked : Asked) (session : Sessions) (t : ℕ) (keys : List Value) (old new : Core D) (i : Image)
+    → MayBegin o → IsLegal o h → Remembers o h s → GoesBack o h e point s asked t
+    → LastsDead m packed_form old.store.geometry.size o h t start old.store asked session
     → IsCatalog old.catalog → s.state ≡ said old.list → s.live ≡ old.live → KnowsStore m old.store i
-    → HasCatalog old old.store i → TakesTables m t keys old new → HasTakenTables m s t keys old new i
+    → HasCatalog old old.store i → TakesRows m t keys old new → HasTakenRows m s t keys old new i

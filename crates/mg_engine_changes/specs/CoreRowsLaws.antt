@@ -1,5 +1,5 @@
 -- What the core takes out of the catalog is what the laws take.
-use Rattle.std.proofs.Common.{◌≡◌, ◌∙◌, ◌∷◌, ℕ, List, Some, ap, refl, subst, sym, true}
+use Rattle.std.proofs.Common.{◌≡◌, ◌∙◌, ◌∷◌, [], ℕ, List, Some, ap, refl, subst, sym, true}
 use Rattle.mg_base.specs.Disk.{Meaning}
 use Rattle.mg_base.specs.Image.{Image}
 use Rattle.mg_base.specs.declared.geometry.Geometry.{Geometry}
@@ -13,33 +13,28 @@ use Rattle.mg_model.specs.declared.table.Table.{Table}
 use Rattle.mg_pool.specs.Pool.{shown}
 use Rattle.mg_row_writes.specs.Changing.{ChangesOwn, nothing_yet}
 use Rattle.mg_snap.specs.Live.{State as Bases}
-use Rattle.mg_table_unmaking.specs.Rows.{TakesRows}
+use Rattle.mg_table_unmaking.specs.Rows.{TakesRow}
 use Rattle.mg_txlist.specs.TxList.{said}
 use Rattle.mg_core.specs.Cores.{IsCatalog}
 use Rattle.mg_core.specs.declared.parts.Core.{Core}
-use Rattle.mg_engine_steps.specs.Again.{again, without_rows}
-use Rattle.mg_engine_steps.specs.Midway.{GoesBack, IsMidway}
+use Rattle.mg_engine_steps.specs.Midway.{GoesBack, LastsDead}
 use Rattle.mg_engine_steps.specs.Outs.{RowsGone}
-use Rattle.mg_engine_steps.specs.RowsLeft.{rows_on}
 use Rattle.mg_engine_steps.specs.Standing.{Remembers, Standing}
-use Rattle.mg_engine_steps.specs.TablesBack.{AreRowsLeft, StoodBefore, TablesGoOn}
+use Rattle.mg_engine_steps.specs.TablesBack.{RowsGoOn, StoodBeside}
 use Rattle.mg_engine_steps.specs.TablesBack as laws
-use Rattle.mg_grown_catalogs.specs.Grown.{CatalogGrows}
 use Rattle.mg_image.specs.Form.{packed_form}
 use Rattle.mg_model.specs.History.{Entries, Entry}
 use Rattle.mg_model.specs.Legal.{IsLegal, MayBegin}
-use Rattle.mg_model.specs.declared.change.Change.{Change}
 use Rattle.mg_model.specs.declared.change.Point.{Point}
 use Rattle.mg_model.specs.declared.opening.Opening.{Opening}
 use Rattle.mg_pool.specs.declared.pool.Pool.{Pool}
 use Rattle.mg_pool_overlays.specs.Needs.{Asked, Sessions}
 use Rattle.mg_space.specs.Taking.{IsGeometry}
 use Rattle.mg_space.specs.declared.links.FireLinks.{FireLinks}
-use Rattle.mg_table_unmaking.specs.Tables.{keys_with, keys_without}
 use Rattle.mg_engine_steps.specs.Knowing.{WasChanged}
 use Rattle.mg_engine_changes.specs.Keys.{HasCatalog}
-use Rattle.mg_table_takings.specs.Takings.{TakesTables, TakesTheRows, no_table, one_table}
-use Rattle.mg_engine_changes.specs.CoreRows.{CoresTakeRows, HasTakenRows, HasTakenTables, KnowsStore}
+use Rattle.mg_table_takings.specs.Takings.{TakesRows, TakesTheRow, no_row, one_row}
+use Rattle.mg_engine_changes.specs.CoreRows.{CoresTakeRows, HasTakenRow, HasTakenRows, KnowsStore}
 
 -- the catalog of the core is the one that the header says
 catalog_is : (table : Table) (page : ℕ) → IsCatalog table → table.pointer.0 ≡ page → catalog_table page ≡ table
@@ -50,16 +45,16 @@ catalog_is table page is at = λ i. record {
   indexes = sym is.none i;
 }
 
-module _ {D : Type 0} (m : Meaning D) (holds : HoldsOne D m) (s : Standing) (t : ℕ) (keys : List Value)
+module _ {D : Type 0} (m : Meaning D) (holds : HoldsOne D m) (s : Standing) (t : ℕ) (key : Value)
     (old new : Core D) (i : Image) (core : IsCatalog old.catalog) (state : s.state ≡ said old.list) (live : s.live ≡ old.live)
     (knows : KnowsStore m old.store i) (catalog : HasCatalog old old.store i)
-    (takes : TakesTheRows m old new t keys) where
+    (takes : TakesTheRow m old new t key) where
   changes : ChangesOwn m old.store new.store
-      (λ image batch. TakesRows old.store image s.state s.live t old.catalog keys nothing_yet batch)
+      (λ image batch. TakesRow old.store image s.state s.live t old.catalog key nothing_yet batch)
   changes = subst (λ (x : ℕ → TxState). ChangesOwn m old.store new.store
-      (λ image batch. TakesRows old.store image x s.live t old.catalog keys nothing_yet batch)) (sym state)
+      (λ image batch. TakesRow old.store image x s.live t old.catalog key nothing_yet batch)) (sym state)
       (subst (λ (x : Bases). ChangesOwn m old.store new.store
-      (λ image batch. TakesRows old.store image (said old.list) x t old.catalog keys nothing_yet batch)) (sym live)
+      (λ image batch. TakesRow old.store image (said old.list) x t old.catalog key nothing_yet batch)) (sym live)
       takes.takes)
 
   told : m.tells new.store.disk ≡ true
@@ -84,7 +79,7 @@ module _ {D : Type 0} (m : Meaning D) (holds : HoldsOne D m) (s : Standing) (t :
     tells = told;
   }
 
-  pub has_taken : HasTakenRows m s t keys old new i
+  pub has_taken : HasTakenRow m s t key old new i
   has_taken =
       let (j, held, left) = holds new.store.disk told in record {
         image = j;
@@ -106,35 +101,31 @@ module _ {D : Type 0} (m : Meaning D) (holds : HoldsOne D m) (s : Standing) (t :
         };
       }
 
--- ---- table by table
+-- ---- row by row
 
-module _ {D : Type 0} (m : Meaning D) (holds : HoldsOne D m) (go_on : TablesGoOn D FireLinks m) (o : Opening) (h : Entries)
+module _ {D : Type 0} (m : Meaning D) (holds : HoldsOne D m) (go_on : RowsGoOn D FireLinks m) (o : Opening) (h : Entries)
     (e : Entry) (point : Point) (s : Standing) (start : Pool D FireLinks) (asked : Asked) (session : Sessions) (t : ℕ)
-    (opening : MayBegin o) (legal : IsLegal o (e ∷ h)) (grows : CatalogGrows o h) (memory : Remembers o h s)
-    (goes : GoesBack o h e point s asked t) where
-  -- the rows of one
-  module _ (left : List Change) (key : Value) (keys : List Value) (begun mid : Core D) (i : Image)
-      (rows : AreRowsLeft o h e t left (key ∷ keys))
-      (midway : IsMidway m packed_form begun.store.geometry.size o h e t left s start begun.store i asked session)
+    (opening : MayBegin o) (legal : IsLegal o h) (memory : Remembers o h s) (goes : GoesBack o h e point s asked t) where
+  -- one row
+  module _ (key : Value) (begun mid : Core D) (i : Image)
+      (lasts : LastsDead m packed_form begun.store.geometry.size o h t start begun.store asked session)
       (core : IsCatalog begun.catalog) (state : s.state ≡ said begun.list) (live : s.live ≡ begun.live)
       (knows : KnowsStore m begun.store i) (catalog : HasCatalog begun begun.store i)
-      (takes : TakesTheRows m begun mid t (keys_with key (key ∷ keys))) where
-    pub first : HasTakenRows m s t (keys_with key (key ∷ keys)) begun mid i
-    first = has_taken m holds s t (keys_with key (key ∷ keys)) begun mid i core state live knows catalog takes
+      (takes : TakesTheRow m begun mid t key) where
+    pub first : HasTakenRow m s t key begun mid i
+    first = has_taken m holds s t key begun mid i core state live knows catalog takes
 
-    pub turn : IsMidway m packed_form begun.store.geometry.size o h e t (without_rows (keys_with key (key ∷ keys)) left) s
-        start mid.store first.image asked session
-        × RowsGone packed_form begun.store.geometry.size o (again t left (e ∷ h)) s.state t (keys_with key (key ∷ keys))
+    pub turn : LastsDead m packed_form begun.store.geometry.size o h t start mid.store asked session
+        × RowsGone packed_form begun.store.geometry.size o (e ∷ h) s.state t (key ∷ [])
         (shown begun.store.dirty i) (shown mid.store.dirty first.image)
         × (shown mid.store.dirty first.image 0 ≡ shown begun.store.dirty i 0)
-        × StoodBefore begun.store.geometry.size s.state (shown begun.store.dirty i) (shown mid.store.dirty first.image)
-    turn = go_on o h e point s start begun.store mid.store i first.image asked session t left key (key ∷ keys) opening
-        legal grows memory goes rows midway first.step
+        × StoodBeside begun.store.geometry.size s.state t (shown begun.store.dirty i) (shown mid.store.dirty first.image)
+    turn = go_on o h e point s start begun.store mid.store i first.image asked session t [] key opening legal memory goes
+        lasts first.step
 
-    pub midway_mid : IsMidway m packed_form mid.store.geometry.size o h e t
-        (without_rows (keys_with key (key ∷ keys)) left) s start mid.store first.image asked session
-    midway_mid = subst (λ (n : ℕ). IsMidway m packed_form n o h e t (without_rows (keys_with key (key ∷ keys)) left) s
-        start mid.store first.image asked session) (sym first.step.size_is) turn.0
+    pub lasts_mid : LastsDead m packed_form mid.store.geometry.size o h t start mid.store asked session
+    lasts_mid = subst (λ (n : ℕ). LastsDead m packed_form n o h t start mid.store asked session)
+        (sym first.step.size_is) turn.0
 
     pub core_mid : IsCatalog mid.catalog
     core_mid = subst IsCatalog (sym (ap (λ (c : Core D). c.catalog) takes.same)) core
@@ -149,41 +140,38 @@ module _ {D : Type 0} (m : Meaning D) (holds : HoldsOne D m) (go_on : TablesGoOn
     catalog_mid = ap (λ (c : Core D). c.catalog.pointer.0) takes.same
         ∙ (catalog ∙ sym (ap (λ (bytes : List ℕ). (header_in bytes).catalog.0) turn.2))
 
-    and_others : (end : Core D) → HasTakenTables m s t (keys_without key (key ∷ keys)) mid end first.image
-        → HasTakenTables m s t (key ∷ keys) begun end i
-    and_others end rest = record {
+    pub and_others : (keys : List Value) (end : Core D) → HasTakenRows m s t keys mid end first.image
+        → HasTakenRows m s t (key ∷ keys) begun end i
+    and_others keys end rest = record {
       image = rest.image;
-      steps = laws.one_table key keys begun.store mid.store end.store i first.image rest.image first.step rest.steps;
+      steps = laws.one_row key keys begun.store mid.store end.store i first.image rest.image first.step rest.steps;
       knows = rest.knows;
       size_is = rest.size_is ∙ first.step.size_is;
       same = rest.same ∙ ap (λ (c : Core D). record c { store = end.store }) takes.same;
     }
 
-  pub tables_taken : (left : List Change) (keys : List Value) (old new : Core D) (i : Image)
-      → AreRowsLeft o h e t left keys
-      → IsMidway m packed_form old.store.geometry.size o h e t left s start old.store i asked session
+  pub rows_taken : (keys : List Value) (old new : Core D) (i : Image)
+      → LastsDead m packed_form old.store.geometry.size o h t start old.store asked session
       → IsCatalog old.catalog → s.state ≡ said old.list → s.live ≡ old.live → KnowsStore m old.store i
-      → HasCatalog old old.store i → TakesTables m t keys old new → HasTakenTables m s t keys old new i
-  tables_taken left keys old new i rows midway core state live knows catalog (no_table it) = record {
+      → HasCatalog old old.store i → TakesRows m t keys old new → HasTakenRows m s t keys old new i
+  rows_taken keys old new i lasts core state live knows catalog (no_row it) = record {
     image = i;
-    steps = laws.no_table it.store i;
+    steps = laws.no_row it.store i;
     knows = knows;
     size_is = refl;
     same = refl;
   }
-  tables_taken left all old new i rows midway core state live knows catalog (one_table key keys begun mid end takes more) =
-      and_others left key keys begun mid i rows midway core state live knows catalog takes end
-      (tables_taken (without_rows (keys_with key (key ∷ keys)) left) (keys_without key (key ∷ keys)) mid end
-      (first left key keys begun mid i rows midway core state live knows catalog takes).image
-      (rows_on o h e t left key (key ∷ keys) rows)
-      (midway_mid left key keys begun mid i rows midway core state live knows catalog takes)
-      (core_mid left key keys begun mid i rows midway core state live knows catalog takes)
-      (state_mid left key keys begun mid i rows midway core state live knows catalog takes)
-      (live_mid left key keys begun mid i rows midway core state live knows catalog takes)
-      (first left key keys begun mid i rows midway core state live knows catalog takes).knows
-      (catalog_mid left key keys begun mid i rows midway core state live knows catalog takes) more)
+  rows_taken all old new i lasts core state live knows catalog (one_row key keys begun mid end takes more) =
+      and_others key begun mid i lasts core state live knows catalog takes keys end
+      (rows_taken keys mid end (first key begun mid i lasts core state live knows catalog takes).image
+      (lasts_mid key begun mid i lasts core state live knows catalog takes)
+      (core_mid key begun mid i lasts core state live knows catalog takes)
+      (state_mid key begun mid i lasts core state live knows catalog takes)
+      (live_mid key begun mid i lasts core state live knows catalog takes)
+      (first key begun mid i lasts core state live knows catalog takes).knows
+      (catalog_mid key begun mid i lasts core state live knows catalog takes) more)
 
-pub cores_take_rows : {D : Type 0} (m : Meaning D) → HoldsOne D m → TablesGoOn D FireLinks m → CoresTakeRows D m
-cores_take_rows m holds go_on o h e point s start asked session t left keys old new i opening legal grows memory goes rows
-    midway core state live knows catalog takes = tables_taken m holds go_on o h e point s start asked session t opening
-    legal grows memory goes left keys old new i rows midway core state live knows catalog takes
+pub cores_take_rows : {D : Type 0} (m : Meaning D) → HoldsOne D m → RowsGoOn D FireLinks m → CoresTakeRows D m
+cores_take_rows m holds go_on o h e point s start asked session t keys old new i opening legal memory goes lasts core state
+    live knows catalog takes = rows_taken m holds go_on o h e point s start asked session t opening legal memory goes keys old
+    new i lasts core state live knows catalog takes

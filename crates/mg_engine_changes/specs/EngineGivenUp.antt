@@ -7,6 +7,7 @@ use Rattle.mg_base.specs.declared.transaction.TxState.{TxState}
 use Rattle.mg_base.specs.declared.transaction.TxState.TheVariants.{Active, Dead}
 use Rattle.mg_engine_steps.specs.Again.{again, rolling}
 use Rattle.mg_engine_steps.specs.Midway.{MidwaysAreGivenUp}
+use Rattle.mg_engine_steps.specs.MidwayLaws.{lasts_of}
 use Rattle.mg_engine_steps.specs.PageWrites.{AsksOtherwise}
 use Rattle.mg_engine_meaning.specs.Falling.{all_but}
 use Rattle.mg_engine_changes.specs.GivenUp.{EnginesGiveUp, GivenUpIsShown, GivesUp}
@@ -83,5 +84,5 @@ engines_give_up D L m is_shown begins on pool_kept given_up otherwise o h e refu
 
     lasting : LastsOn m packed_form o (rolling t ∷ refused ∷ h) pool has_asked session
         × LeavesSince m start.disk pool.disk (HoldsAcknowledged packed_form pool.geometry.size o h)
-    lasting = given_up o h e refused s start pool i has_asked session t left (ap is_idle gives.nothing) passing
-        no_failure midway
+    lasting = given_up o h refused start pool has_asked session t (ap is_idle gives.nothing) passing no_failure
+        (lasts_of m packed_form pool.geometry.size o h e t left s start pool i has_asked session midway)

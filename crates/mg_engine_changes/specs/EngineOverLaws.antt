@@ -34,6 +34,7 @@ use Rattle.mg_engine_steps.specs.ShapesLeft.{table_left}
 use Rattle.mg_engine_steps.specs.TablesBack.{AreRowsLeft, TablesAreTaken, TakesOnPages}
 use Rattle.mg_engine_steps.specs.Again.{without_key, AreTaken}
 use Rattle.mg_engine_steps.specs.Midway.{GoesBack, IsMidway, MidwaysBegin}
+use Rattle.mg_engine_steps.specs.MidwayLaws.{lasts_of}
 use Rattle.mg_engine_steps.specs.OwnChains.{newest_second}
 use Rattle.mg_engine_steps.specs.Shown.{ShowsFirst}
 use Rattle.mg_engine_steps.specs.Unasked.{UnaskingLasts}
@@ -79,7 +80,7 @@ use Rattle.mg_undo.specs.declared.changes.Change.{Change as Kept}
 use Rattle.mg_value.specs.declared.value.Value.{Value}
 use Rattle.mg_works.specs.Works.{Working, given_by, given_to, unasked, with_undo, with_work, without_tables, work_of, without_written, tables_left}
 use Rattle.mg_works.specs.WorksLaws.{with_its, with_others}
-use Rattle.mg_engine_changes.specs.CoreRows.{CoresTakeRows, HasTakenTables}
+use Rattle.mg_engine_changes.specs.CoreRows.{CoresTakeRows, HasTakenRows}
 use Rattle.mg_engine_changes.specs.EngineOver.{EnginesGoOver, IsBackEntry, OthersWalkOver}
 use Rattle.mg_engine_changes.specs.KeptOverLaws.{left_one, told_left}
 use Rattle.mg_engine_changes.specs.ListsTell.{KeysGoWhole, ListsTellWhole}
@@ -375,10 +376,11 @@ module _ {D : Type 0} (m : Meaning D) (openings : OpeningsBegin) (unask : Unaski
   midway_mid = subst (λ (n : ℕ). IsMidway m packed_form n o h e t taken.rest s old.store both.mid.store taken.image
       (asked_in (with_work t unasked old.works)) (sessions_in old.works)) (sym taken.knows.size_is) taken.midway.cache
 
-  rows : HasTakenTables m s t takes.takes.keys both.mid takes.takes.taken taken.image
-  rows = rows_taken o h e point s old.store (asked_in (with_work t unasked old.works)) (sessions_in old.works) t taken.rest
-      takes.takes.keys both.mid takes.takes.taken taken.image opening (is.lawful, shows.stands.legal) stands.grows
-      shows.stands.memory goes rows_left midway_mid (subst IsCatalog (sym mid_catalog) core.catalog)
+  rows : HasTakenRows m s t takes.takes.keys both.mid takes.takes.taken taken.image
+  rows = rows_taken o h e point s old.store (asked_in (with_work t unasked old.works)) (sessions_in old.works) t
+      takes.takes.keys both.mid takes.takes.taken taken.image opening shows.stands.legal shows.stands.memory goes
+      (lasts_of m packed_form both.mid.store.geometry.size o h e t taken.rest s old.store both.mid.store taken.image
+      (asked_in (with_work t unasked old.works)) (sessions_in old.works) midway_mid) (subst IsCatalog (sym mid_catalog) core.catalog)
       (sym (ap (λ (c : Core D). said c.list) taken.same)) (sym (ap (λ (c : Core D). c.live) taken.same)) (record {
         pool_is = taken.knows.pool_is;
         geometry = taken.knows.geometry;

@@ -1,5 +1,5 @@
 -- What is told of the disk's faults as a transaction is taken back over tables that it has made.
-use Rattle.std.proofs.Common.{ℕ, List, Some, ap, refl, ◌∙◌, ◌∷◌}
+use Rattle.std.proofs.Common.{ℕ, List, Some, ap, refl, ◌∙◌}
 use Rattle.mg_base.specs.Disk.{Meaning}
 use Rattle.mg_model.specs.declared.change.Point.{Point}
 use Rattle.mg_model.specs.declared.refusal.Refusal.{Refusal}
@@ -9,8 +9,7 @@ use Rattle.mg_value.specs.declared.value.Value.{Value}
 use Rattle.mg_core.specs.declared.parts.Core.{Core}
 use Rattle.mg_taking_back.specs.Taking.{not_asking}
 use Rattle.mg_table_takings.specs.Keys.{others_of}
-use Rattle.mg_table_unmaking.specs.Tables.{keys_with, keys_without}
-use Rattle.mg_table_takings.specs.Takings.{FailsTables, FailsTablesFrom, FailsTablesTo, FailsTheRows, StopsBoth, StopsOthers, TakesBoth, TakesOthers, TakesTables, TakesTablesFrom, TakesTablesTo, TakesTheRows, later_table, no_table, one_table, rows_unknown, stops_at_other, stops_at_rows, tables_not_begun, tables_not_copied, tables_not_taken, tables_stopped, table_stands, table_unknown}
+use Rattle.mg_table_takings.specs.Takings.{FailsRows, FailsTablesFrom, FailsTablesTo, FailsTheRow, StopsBoth, StopsOthers, TakesBoth, TakesOthers, TakesRows, TakesTablesFrom, TakesTablesTo, TakesTheRow, later_row, no_row, one_row, row_stands, rows_unknown, stops_at_other, stops_at_rows, tables_not_begun, tables_not_copied, tables_not_taken, tables_stopped}
 use Rattle.mg_engine_changes.specs.FaultBackLaws.{change_told, changes_stand, given_up}
 use Rattle.mg_engine_changes.specs.FaultCoreLaws.{count, ended, refused}
 use Rattle.mg_engine_changes.specs.FaultPageLaws.{is_none, own_stands, own_told}
@@ -32,37 +31,34 @@ module _ {D : Type 0} (m : Meaning D) where
 
   -- ---- the rows of the catalog
 
-  rows_stand : (old new : Core D) (t : ℕ) (keys : List Value) → TakesTheRows m old new t keys
+  row_stands_so : (old new : Core D) (t : ℕ) (key : Value) → TakesTheRow m old new t key
       → Stands m old.store new.store
-  rows_stand old new t keys rows = own_stands m old.store new.store rows.takes
+  row_stands_so old new t key row = own_stands m old.store new.store row.takes
 
-  rows_told : (old new : Core D) (t : ℕ) (keys : List Value) (refusal : Refusal)
-      → FailsTheRows m old new t keys refusal → TellsFaults m old new (Some refusal)
-  rows_told old new t keys refusal fails quiet =
-      own_told m old.store new.store fails.fault fails.fails.own (is_none fails.fault refusal fails.is quiet)
+  row_told : (old new : Core D) (t : ℕ) (key : Value) (refusal : Refusal)
+      → FailsTheRow m old new t key refusal → TellsFaults m old new (Some refusal)
+  row_told old new t key refusal fails quiet =
+      own_told m old.store new.store fails.fault fails.fails (is_none fails.fault refusal fails.is quiet)
 
-  -- table by table
-  tables_stand : (t : ℕ) (keys : List Value) (old new : Core D) → TakesTables m t keys old new
+  -- one after another
+  rows_stand : (t : ℕ) (keys : List Value) (old new : Core D) → TakesRows m t keys old new
       → Stands m old.store new.store
-  tables_stand t keys old new (no_table core) = refl
-  tables_stand t all old new (one_table key keys begun mid end takes more) =
-      tables_stand t (keys_without key (key ∷ keys)) mid end more
-      ∙ rows_stand begun mid t (keys_with key (key ∷ keys)) takes
+  rows_stand t keys old new (no_row core) = refl
+  rows_stand t all old new (one_row key keys begun mid end takes more) =
+      rows_stand t keys mid end more ∙ row_stands_so begun mid t key takes
 
-  tables_told : (t : ℕ) (refusal : Refusal) (keys : List Value) (old new : Core D)
-      → FailsTables m t refusal keys old new → TellsFaults m old new (Some refusal)
-  tables_told t refusal keys old new (table_unknown its core is) quiet = refl
-  tables_told t refusal all old new (table_stands key keys begun end fails) quiet =
-      rows_told begun end t (keys_with key (key ∷ keys)) refusal fails quiet
-  tables_told t refusal all old new (later_table key keys begun mid end takes more) quiet =
-      tables_told t refusal (keys_without key (key ∷ keys)) mid end more quiet
-      ∙ rows_stand begun mid t (keys_with key (key ∷ keys)) takes
+  rows_told : (t : ℕ) (refusal : Refusal) (keys : List Value) (old new : Core D)
+      → FailsRows m t refusal keys old new → TellsFaults m old new (Some refusal)
+  rows_told t refusal all old new (row_stands key keys begun end fails) quiet =
+      row_told begun end t key refusal fails quiet
+  rows_told t refusal all old new (later_row key keys begun mid end takes more) quiet =
+      rows_told t refusal keys mid end more quiet ∙ row_stands_so begun mid t key takes
 
   -- ---- both
 
   both_stand : (old new : Core D) (t : ℕ) (start end : Undo) (keys : List Value)
       → TakesBoth m old new t start end keys → Stands m old.store new.store
-  both_stand old new t start end keys takes = tables_stand t keys takes.mid new takes.rows
+  both_stand old new t start end keys takes = rows_stand t keys takes.mid new takes.rows
       ∙ others_stand old takes.mid t start end takes.others
 
   both_told : (old new : Core D) (t : ℕ) (start : Undo) (keys : List Value) (refusal : Refusal)
@@ -70,7 +66,7 @@ module _ {D : Type 0} (m : Meaning D) where
   both_told old new t start keys refusal (stops_at_other stops) quiet =
       others_told old new t start refusal stops quiet
   both_told old new t start keys refusal (stops_at_rows mid end others fails) quiet =
-      tables_told t refusal keys mid new fails quiet ∙ others_stand old mid t start end others
+      rows_told t refusal keys mid new fails quiet ∙ others_stand old mid t start end others
 
   -- ---- to a point
 

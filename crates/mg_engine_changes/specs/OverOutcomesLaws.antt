@@ -28,16 +28,15 @@ use Rattle.mg_table_takings.specs.Takings.{FailsTablesFrom, FailsTablesTo, Takes
 use Rattle.mg_engine_changes.specs.EngineOver.{EnginesGoOver, OthersWalkOver}
 use Rattle.mg_engine_changes.specs.OverOutcomes.{MarksGiveOver, RefusalsGiveOver, SavepointsGiveOver}
 use Rattle.mg_engine_changes.specs.OverStopped.{stops_over}
-use Rattle.mg_engine_changes.specs.RowsGiven.{GivenApart, RowsAreLeft}
-use Rattle.mg_engine_changes.specs.ListsTell.{ListsTellWhole}
-use Rattle.mg_engine_steps.specs.TablesBack.{TablesGoOn}
+use Rattle.mg_engine_changes.specs.RowsGiven.{GivenApart}
+use Rattle.mg_engine_steps.specs.TablesBack.{RowsGoOn}
 use Rattle.mg_space.specs.declared.links.FireLinks.{FireLinks}
 use Rattle.mg_engine_changes.specs.UndoneOver.{new_is, taken_back_gives}
 
 -- ---- it is refused
 
 module _ {D P : Type 0} (m : Meaning D) (places : Places P) (known : KnownOfBacks D P m) (apart_law : GivenApart)
-    (rows_law : RowsAreLeft) (tell : ListsTellWhole) (go_on : TablesGoOn D FireLinks m)
+    (go_on : RowsGoOn D FireLinks m)
     (old new : Core D) (t : TxNo) (point : Point) (refusal : Refusal) (core : IsCore m old) (counted : AreCounts old)
     (apart : AreApart old.works) where
   from_begun : (begun : Core D) (undo : Undo) → HasBegun old begun t.0 undo → MayReach undo point
@@ -46,8 +45,7 @@ module _ {D P : Type 0} (m : Meaning D) (places : Places P) (known : KnownOfBack
       short_begun m places known old new t core apart point refusal begun has_begun.continues has_begun.ended is gives_up
   from_begun begun undo has_begun reaches (tables_stopped keys stopped rows stops gives_up) =
       stopped_given m places known old new t core apart counted point refusal begun stopped undo has_begun
-      (stops_over m known apart_law rows_law tell go_on old begun stopped t point undo refusal core has_begun reaches keys
-      rows stops) gives_up
+      (stops_over m known apart_law go_on old begun stopped t point undo refusal core has_begun reaches keys stops) gives_up
 
   pub refused_over : FailsTablesTo m old new t.0 point refusal → GivenUpApart m places old new t point refusal
   refused_over (tables_not_begun refused) = not_begun m places known old new t core apart point refusal refused
@@ -55,10 +53,10 @@ module _ {D P : Type 0} (m : Meaning D) (places : Places P) (known : KnownOfBack
       short_begun m places known old new t core apart point refusal begun continues ended is gives_up
   refused_over (tables_not_taken begun undo has_begun reaches fails) = from_begun begun undo has_begun reaches fails
 
-pub refusals_give_over : {D P : Type 0} (m : Meaning D) → KnownOfBacks D P m → GivenApart → RowsAreLeft → ListsTellWhole
-    → TablesGoOn D FireLinks m → RefusalsGiveOver D P m
-refusals_give_over m known apart_law rows_law tell go_on places old new t point refusal core counted apart fails =
-    refused_over m places known apart_law rows_law tell go_on old new t point refusal core counted apart fails
+pub refusals_give_over : {D P : Type 0} (m : Meaning D) → KnownOfBacks D P m → GivenApart
+    → RowsGoOn D FireLinks m → RefusalsGiveOver D P m
+refusals_give_over m known apart_law go_on places old new t point refusal core counted apart fails =
+    refused_over m places known apart_law go_on old new t point refusal core counted apart fails
 
 -- ---- each session has one active transaction at most
 

@@ -1,17 +1,16 @@
--- Taking back over tables stops at the rows of a table: those of the first ones have gone.
-use Rattle.std.proofs.Common.{◌≡◌, ◌⊎◌, ◌∙◌, ◌∷◌, ℕ, List, None, ap, inl, inr, refl, subst, sym, true}
-use Rattle.std.specs.Prelude.{map}
+-- Taking back over tables stops at a row of the catalog: the ones before it have gone.
+use Rattle.std.proofs.Common.{◌≡◌, ◌∙◌, ◌∷◌, [], ℕ, List, ap, refl, subst, sym}
 use Rattle.mg_base.specs.Disk.{Meaning}
 use Rattle.mg_base.specs.declared.numbers.TxNo.{TxNo}
 use Rattle.mg_model.specs.History.{Entries, Entry, entry}
-use Rattle.mg_model.specs.Machine.{deeds_by, own, steps}
+use Rattle.mg_model.specs.Machine.{deeds_by, steps}
 use Rattle.mg_model.specs.declared.answer.Answer.TheVariants.{Fine}
 use Rattle.mg_model.specs.declared.change.Change.{Change}
 use Rattle.mg_model.specs.declared.change.Point.{Point}
 use Rattle.mg_model.specs.declared.opening.Opening.{Opening}
 use Rattle.mg_model.specs.declared.refusal.Refusal.{Refusal}
 use Rattle.mg_pool.specs.Pool.{shown}
-use Rattle.mg_undo.specs.Machine.{changes_of, first_of, given_from, going_to}
+use Rattle.mg_undo.specs.Machine.{first_of, going_to}
 use Rattle.mg_undo.specs.Undo.{State as Undo, TakesBack as GivesAll}
 use Rattle.mg_undo.specs.declared.changes.Change.{Change as Kept}
 use Rattle.mg_value.specs.declared.value.Value.{Value}
@@ -29,110 +28,78 @@ use Rattle.mg_engine_changes.specs.Outcomes.{back_event}
 use Rattle.mg_engine_changes.specs.StageLaws.{own_left, own_tells}
 use Rattle.mg_engine_changes.specs.Stopping.{StopsAs}
 use Rattle.mg_engine_changes.specs.StopsAfter.{StopsAfter, begun_as}
-use Rattle.mg_engine_changes.specs.ToTake.{EachChange, since_point}
-use Rattle.mg_table_takings.specs.Keys.{AreNewIn, AreRowsToTake, others_of}
-use Rattle.mg_table_unmaking.specs.Tables.{keys_with, keys_without}
-use Rattle.mg_table_takings.specs.Takings.{FailsTables, FailsTheRows, TakesOthers, later_table, table_stands, table_unknown}
-use Rattle.mg_engine_changes.specs.OverGiven.{each_of_table, each_own, given_is as all_is, keys_are as keys_given, number_is as catalog_number, others_are, tells as tells_catalog}
-use Rattle.mg_engine_changes.specs.RowsGiven.{GivenApart, RowsAreLeft, TellsCatalog, of_catalog, of_others}
+use Rattle.mg_engine_changes.specs.ToTake.{since_point}
+use Rattle.mg_table_takings.specs.Keys.{others_of}
+use Rattle.mg_table_takings.specs.Takings.{FailsRows, FailsTheRow, TakesOthers, TakesRows, later_row, no_row, one_row, row_stands}
+use Rattle.mg_engine_changes.specs.OverGiven.{each_of_table, others_are}
+use Rattle.mg_engine_changes.specs.RowsGiven.{GivenApart, of_catalog, of_others}
 use Rattle.mg_base.specs.Image.{Image}
 use Rattle.mg_core.specs.Cores.{IsCatalog}
-use Rattle.mg_core.specs.Refusing.{NamesLimit}
 use Rattle.mg_engine_changes.specs.CoreRows.{KnowsStore}
 use Rattle.mg_engine_changes.specs.EngineOver.{IsBackEntry}
-use Rattle.mg_engine_changes.specs.EngineOverLaws.{going_changes, rest_within}
-use Rattle.mg_engine_changes.specs.ListsTell.{KeysGoWhole, ListsTellWhole}
 use Rattle.mg_engine_changes.specs.OverEvents.{back_over}
-use Rattle.mg_engine_changes.specs.RowsLost.{HasLost, TakesFirst, no_first, one_first}
-use Rattle.mg_engine_changes.specs.RowsLostLaws.{first_taken, rows_lost}
+use Rattle.mg_engine_changes.specs.RowsLost.{HasLost}
+use Rattle.mg_engine_changes.specs.RowsLostLaws.{rows_lost, rows_on}
 use Rattle.mg_engine_changes.specs.Takings.{KnowsCache}
-use Rattle.mg_engine_steps.specs.Midway.{IsMidway}
-use Rattle.mg_engine_steps.specs.TablesBack.{AreRowsLeft, TablesGoOn}
+use Rattle.mg_engine_steps.specs.Midway.{LastsDead}
+use Rattle.mg_engine_steps.specs.MidwayLaws.{lasts_of}
+use Rattle.mg_engine_steps.specs.TablesBack.{RowsGoOn}
 use Rattle.mg_image.specs.Form.{packed_form}
-use Rattle.mg_model.specs.Catalog.{catalog_name}
-use Rattle.mg_model.specs.Changes.{has_change}
-use Rattle.mg_model.specs.declared.refusal.Refusal.TheVariants.{Memory}
 use Rattle.mg_model.specs.declared.table.Table.{Table}
-use Rattle.mg_pool.specs.Pool.{IsPool}
-use Rattle.mg_pool.specs.declared.fault.PoolFault.TheVariants as pool_faults
 use Rattle.mg_pool.specs.declared.pool.Pool.{Pool}
-use Rattle.mg_space.specs.ViewLaws.{keeps_itself}
-use Rattle.mg_space.specs.declared.fault.SpaceFault.TheVariants as faults
 use Rattle.mg_space.specs.declared.links.FireLinks.{FireLinks}
 use Rattle.mg_txlist.specs.TxList.{said}
-use Rattle.mg_undo.specs.Whole.{goes_whole}
 
 pub known_store : {D : Type 0} {m : Meaning D} {size : ℕ} {s : Standing} {pool : Pool D FireLinks} {i : Image}
     → KnowsCache m size s pool i → KnowsStore m pool i
 known_store knows =
     record { pool_is = knows.pool_is; geometry = knows.geometry; online = knows.online; tells = knows.tells }
 
--- ---- at which table it stops
+-- ---- at which row it stops
 
--- The rows of the first tables are taken out, of none or some, and then a step is refused.
-pub record StopsAmong {D : Type 0} (m : Meaning D) (t : ℕ) (keys : List Value) (refusal : Refusal) (mid stopped : Core D)
-    : Type 0 where
+-- Some rows are taken out, or none, and then one is not.
+pub record StopsAmong {D : Type 0} (m : Meaning D) (t : ℕ) (refusal : Refusal) (mid stopped : Core D) : Type 0 where
+  pub done : List Value
   pub at : Core D
-  pub first : TakesFirst m t keys mid at
-  pub stopping : StopsAs m at stopped refusal
-  pub cause : (stopped ≡ at) ⊎ ((its : List Value) × FailsTheRows m at stopped t its refusal)
+  pub first : TakesRows m t done mid at
+  pub key : Value
+  pub fails : FailsTheRow m at stopped t key refusal
 
-module _ {D : Type 0} (m : Meaning D) (t : ℕ) (refusal : Refusal) where
-  rows_as : (mid stopped : Core D) (keys : List Value) → FailsTheRows m mid stopped t keys refusal
-      → StopsAs m mid stopped refusal
-  rows_as mid stopped keys fails = record {
-    fault = fails.fault;
-    left = own_left m mid.store stopped.store _ _ fails.fault fails.fails.own;
-    told = own_tells m mid.store stopped.store _ _ fails.fault fails.fails.own;
-    is = fails.is;
-    names = fails.names;
-    counts = fails.counts;
-    same = fails.same;
-  }
+pub row_as : {D : Type 0} (m : Meaning D) (t : ℕ) (refusal : Refusal) (mid stopped : Core D) (key : Value)
+    → FailsTheRow m mid stopped t key refusal → StopsAs m mid stopped refusal
+row_as m t refusal mid stopped key fails = record {
+  fault = fails.fault;
+  left = own_left m mid.store stopped.store _ _ fails.fault fails.fails;
+  told = own_tells m mid.store stopped.store _ _ fails.fault fails.fails;
+  is = fails.is;
+  names = fails.names;
+  counts = fails.counts;
+  same = fails.same;
+}
 
-  -- no call was made
-  memory_as : (core : Core D) → IsPool m core.store → core.store.offline ≡ None → refusal ≡ Memory
-      → StopsAs m core core refusal
-  memory_as core pool up is = record {
-    fault = faults.Pool pool_faults.Memory;
-    left = inl (keeps_itself m core.store pool);
-    told = up;
-    is = is;
-    names = subst (NamesLimit core.store.geometry.limit) (sym is) tt;
-    counts = (refl, refl);
-    same = refl;
-  }
+pub stops_among : {D : Type 0} (m : Meaning D) (t : ℕ) (refusal : Refusal) (keys : List Value) (mid stopped : Core D)
+    → FailsRows m t refusal keys mid stopped → StopsAmong m t refusal mid stopped
+stops_among m t refusal all mid stopped (row_stands key keys begun end fails) =
+    record { done = []; at = begun; first = no_row begun; key = key; fails = fails }
+stops_among m t refusal all mid stopped (later_row key keys begun next end takes more) =
+    let later = stops_among m t refusal keys next end more in record {
+      done = key ∷ later.done;
+      at = later.at;
+      first = one_row key later.done begun next later.at takes later.first;
+      key = later.key;
+      fails = later.fails;
+    }
 
-  pub stops_among : (keys : List Value) (mid stopped : Core D) → IsPool m mid.store → mid.store.offline ≡ None
-      → FailsTables m t refusal keys mid stopped → StopsAmong m t keys refusal mid stopped
-  stops_among its mid stopped pool up (table_unknown keys core is) =
-      record { at = core; first = no_first keys core; stopping = memory_as core pool up is; cause = inl refl }
-  stops_among all mid stopped pool up (table_stands key keys begun end fails) = record {
-    at = begun;
-    first = no_first (key ∷ keys) begun;
-    stopping = rows_as begun end (keys_with key (key ∷ keys)) fails;
-    cause = inr (keys_with key (key ∷ keys), fails);
-  }
-  stops_among all mid stopped pool up (later_table key keys begun next end takes more) =
-      let later = stops_among (keys_without key (key ∷ keys)) next end takes.takes.changed.pool
-      takes.takes.changed.online.1 more in record {
-        at = later.at;
-        first = one_first key keys begun next later.at takes later.first;
-        stopping = later.stopping;
-        cause = later.cause;
-      }
-
-module _ {D P : Type 0} (m : Meaning D) (known : KnownOfBacks D P m) (apart : GivenApart) (rows_law : RowsAreLeft)
-    (tell : ListsTellWhole) (go_on : TablesGoOn D FireLinks m) (old begun stopped : Core D) (t : TxNo) (point : Point) (undo : Undo) (refusal : Refusal) (core : IsCore m old)
-    (has_begun : HasBegun old begun t.0 undo) (reaches : MayReach undo point) where
+module _ {D P : Type 0} (m : Meaning D) (known : KnownOfBacks D P m) (apart : GivenApart)
+    (go_on : RowsGoOn D FireLinks m) (old begun stopped : Core D) (t : TxNo) (point : Point) (undo : Undo)
+    (refusal : Refusal) (core : IsCore m old) (has_begun : HasBegun old begun t.0 undo) (reaches : MayReach undo point) where
   begun_is : not_asking t.0 begun ≡ begun_as old begun t.0
   begun_is = ap (λ (c : Core D). not_asking t.0 c) has_begun.ended.same
 
   abbrev page : ℕ
   page = old.catalog.pointer.0
 
-  module _ (mid : Core D) (end : Undo) (keys : List Value)
-      (rows_to : AreRowsToTake begun.catalog.pointer.0 (going_to undo point) keys)
+  module _ (mid : Core D) (end : Undo)
       (others_ : TakesOthers m (not_asking t.0 begun) mid t.0 (going_to undo point) end) where
     takes_begun : TakesChanges m t.0 (begun_as old begun t.0) (others_of old.catalog.pointer.0 others_.given) mid
     takes_begun = subst (λ (c : Core D). TakesChanges m t.0 c (others_of c.catalog.pointer.0 others_.given) mid) begun_is
@@ -141,10 +108,6 @@ module _ {D P : Type 0} (m : Meaning D) (known : KnownOfBacks D P m) (apart : Gi
     pub taken_mid : HasTaken m (begun_as old begun t.0) mid
     taken_mid = keys_taken m t.0 (begun_as old begun t.0) mid (others_of old.catalog.pointer.0 others_.given)
         has_begun.continues.0 core.pool takes_begun
-
-    rows_first : AreRowsToTake old.catalog.pointer.0 (going_to undo point) keys
-    rows_first = subst (λ (c : Core D). AreRowsToTake c.catalog.pointer.0 (going_to undo point) keys) has_begun.ended.same
-        rows_to
 
     module _ (o : Opening) (h : Entries) (stands : StandsFor m old o h)
         (shows : ShowsIt m old o h (standing_of old stands.numbers stands.tables)) where
@@ -172,41 +135,6 @@ module _ {D P : Type 0} (m : Meaning D) (known : KnownOfBacks D P m) (apart : Gi
       gave : GivesAll (going_to (s.undo t.0) point) others_.given end
       gave = subst (λ (u : Undo). GivesAll (going_to u point) others_.given end) undo_is others_.steps
 
-      given_is : others_.given ≡ map (given_from (s.number t.0) (own o (e ∷ h) t.0)) firsts
-      given_is = all_is m known.what_was known.keys apart old t.0 point o h e stands shows has_begun.continues.1 is.back
-          is.may others_.given end gave
-
-      made : EachChange (λ c. has_change (own o h t.0) c.table c.key ≡ true) firsts
-      made = each_own m known.what_was known.keys apart old t.0 point o h e stands shows has_begun.continues.1 is.back
-          is.may others_.given end gave
-
-      number_is : (key : Value) → has_change (own o h t.0) catalog_name key ≡ true → s.number t.0 catalog_name ≡ page
-      number_is = catalog_number m known.what_was known.keys apart old t.0 point o h e stands shows
-          has_begun.continues.1 is.back is.may others_.given end gave
-
-      tells : TellsCatalog (s.number t.0) page firsts
-      tells = tells_catalog m known.what_was known.keys apart old t.0 point o h e stands shows has_begun.continues.1
-          is.back is.may others_.given end gave
-
-      keys_are : keys ≡ map (λ c. c.key) (of_catalog firsts)
-      keys_are = rows_first.given.its others_.given end others_.steps
-          ∙ keys_given m known.what_was known.keys apart old t.0 point o h e stands shows has_begun.continues.1 is.back
-          is.may others_.given end gave
-
-      new_in : AreNewIn page (map (given_from (s.number t.0) (own o (e ∷ h) t.0)) firsts)
-      new_in = subst (AreNewIn page) given_is (rows_first.given.new others_.given end others_.steps)
-
-      kept_changes : (going_to undo point).changes ≡ changes_of (s.number t.0) (deeds_by t.0 (steps o h))
-      kept_changes = going_changes undo point ∙ (ap (λ (u : Undo). u.changes) undo_is
-          ∙ ap (λ (u : Undo). u.changes) (shows.stands.memory.active t.0
-          (sym (shows.stands.memory.state t.0) ∙ has_begun.continues.1)).undo)
-
-      goes_whole_ : KeysGoWhole (own o h t.0) (map (λ c. c.key) (of_catalog firsts))
-      goes_whole_ = tell (s.number t.0) page (deeds_by t.0 (steps o h)) (map (λ c. c.key) (of_catalog firsts)) number_is
-          (ap (λ (cs : List Kept). goes_whole page (map (λ c. c.key) (of_catalog firsts)) cs) (sym kept_changes)
-          ∙ (ap (λ (ks : List Value). goes_whole page ks (going_to undo point).changes) (sym keys_are)
-          ∙ rows_first.whole))
-
       pub has_taken : HasTakenKeys m old.store.geometry.size o h e t.0 whole whole (of_others firsts) (of_catalog firsts) s
           old.store old.store (shown old.store.dirty shows.image) shows.stands.shows shows.image
           (asked_in (with_work t.0 unasked old.works)) (sessions_in old.works) (begun_as old begun t.0) mid
@@ -225,45 +153,40 @@ module _ {D P : Type 0} (m : Meaning D) (known : KnownOfBacks D P m) (apart : Gi
           (midway m known old begun t point undo core has_begun o h stands shows)
           (knows m known old begun t point undo core has_begun o h stands shows) shows.catalog
 
-      rows_left : AreRowsLeft o h e t.0 has_taken.rest keys
-      rows_left = subst (AreRowsLeft o h e t.0 has_taken.rest) (sym keys_are)
-          (rows_law o h e t.0 (s.number t.0) page firsts whole has_taken.rest tells
-          (known.since o h e t.0 point is.back)
-          (rest_within m size o h e t.0 s shows.stands.shows.versions.speaker (of_others firsts) whole has_taken.rest
-          old.store mid.store shows.image has_taken.image has_taken.steps) has_taken.to_come made new_in goes_whole_)
-
       mid_catalog : mid.catalog ≡ old.catalog
       mid_catalog = ap (λ (c : Core D). c.catalog) has_taken.same
 
-      pub lost_at : (at_core : Core D) → TakesFirst m t.0 keys mid at_core
-          → (j : Image) × HasLost m mid.store.geometry.size o h e t.0 s old.store mid at_core has_taken.image j
+      pub lost_at : (done : List Value) (at_core : Core D) → TakesRows m t.0 done mid at_core
+          → (j : Image) × HasLost m mid.store.geometry.size o h t.0 s old.store mid at_core has_taken.image j
           (asked_in (with_work t.0 unasked old.works)) (sessions_in old.works)
-      lost_at at_core first = rows_lost m known.holds go_on known.one_way o h e point s old.store
+      lost_at done at_core first = rows_lost m known.holds go_on known.one_way o h e point s old.store
           (asked_in (with_work t.0 unasked old.works)) (sessions_in old.works) t.0
-          (opening m known old begun t point undo core has_begun o h stands shows) (is.lawful, shows.stands.legal)
-          stands.grows shows.stands.memory (goes m known old begun t point undo core has_begun o h stands shows)
-          has_taken.rest keys mid at_core has_taken.image rows_left
-          (subst (λ (n : ℕ). IsMidway m packed_form n o h e t.0 has_taken.rest s old.store mid.store has_taken.image
+          (opening m known old begun t point undo core has_begun o h stands shows) shows.stands.legal
+          shows.stands.memory (goes m known old begun t point undo core has_begun o h stands shows) done mid at_core
+          has_taken.image
+          (subst (λ (n : ℕ). LastsDead m packed_form n o h t.0 old.store mid.store
           (asked_in (with_work t.0 unasked old.works)) (sessions_in old.works)) (sym has_taken.knows.size_is)
-          has_taken.midway.cache) (subst IsCatalog (sym mid_catalog) core.catalog)
+          (lasts_of m packed_form size o h e t.0 has_taken.rest s old.store mid.store has_taken.image
+          (asked_in (with_work t.0 unasked old.works)) (sessions_in old.works) has_taken.midway.cache))
+          (subst IsCatalog (sym mid_catalog) core.catalog)
           (sym (ap (λ (c : Core D). said c.list) has_taken.same)) (sym (ap (λ (c : Core D). c.live) has_taken.same))
           (known_store has_taken.knows) (ap (λ (x : Table). x.pointer.0) mid_catalog ∙ has_taken.catalog) first
 
-    pub at_rows : StopsAmong m t.0 keys refusal mid stopped → StopsAfter m old begun stopped t point refusal
+    pub at_rows : StopsAmong m t.0 refusal mid stopped → StopsAfter m old begun stopped t point refusal
     at_rows among = record {
       at = among.at;
-      taken = first_taken m t.0 keys (begun_as old begun t.0) mid among.at taken_mid among.first;
-      stopping = among.stopping;
+      taken = rows_on m t.0 among.done (begun_as old begun t.0) mid among.at taken_mid among.first;
+      stopping = row_as m t.0 refusal among.at stopped among.key among.fails;
       over = λ o h stands shows. record {
         keys = of_others (first_of (since_point point (deeds_by t.0 (steps o h))));
         more = of_catalog (first_of (since_point point (deeds_by t.0 (steps o h))));
         mid = mid;
-        image = (lost_at o h stands shows among.at among.first).0;
+        image = (lost_at o h stands shows among.done among.at among.first).0;
         taken = has_taken o h stands shows;
-        lost = subst (λ (n : ℕ). HasLost m n o h (entry (back_event t point) Fine) t.0
+        lost = subst (λ (n : ℕ). HasLost m n o h t.0
             (standing_of old stands.numbers stands.tables) old.store mid among.at (has_taken o h stands shows).image
-            (lost_at o h stands shows among.at among.first).0 (asked_in (with_work t.0 unasked old.works))
+            (lost_at o h stands shows among.done among.at among.first).0 (asked_in (with_work t.0 unasked old.works))
             (sessions_in old.works)) (has_taken o h stands shows).knows.size_is
-            (lost_at o h stands shows among.at among.first).1;
+            (lost_at o h stands shows among.done among.at among.first).1;
       };
     }

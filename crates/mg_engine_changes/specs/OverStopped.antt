@@ -33,14 +33,15 @@ use Rattle.mg_engine_changes.specs.Stopped.{IsPart, each_front, part_of}
 use Rattle.mg_engine_changes.specs.Stopping.{StopsAs, stops_as}
 use Rattle.mg_engine_changes.specs.StopsAfter.{StopsAfter, begun_as}
 use Rattle.mg_engine_changes.specs.ToTake.{AreKeysOf, EachChange, since_point}
-use Rattle.mg_table_takings.specs.Keys.{AreRowsToTake, others_of}
+use Rattle.mg_table_takings.specs.Keys.{others_of}
 use Rattle.mg_table_takings.specs.Takings.{StopsBoth, StopsOthers, stops_at_other, stops_at_rows}
 use Rattle.mg_engine_changes.specs.OverGiven.{each_of_table, others_are}
-use Rattle.mg_engine_changes.specs.RowsGiven.{GivenApart, RowsAreLeft, of_catalog, of_others}
-use Rattle.mg_engine_changes.specs.ListsTell.{ListsTellWhole}
-use Rattle.mg_engine_changes.specs.OverRows.{at_rows, known_store, stops_among, taken_mid}
+use Rattle.mg_engine_changes.specs.RowsGiven.{GivenApart, of_catalog, of_others}
+use Rattle.mg_engine_changes.specs.OverRows.{at_rows, known_store, stops_among}
 use Rattle.mg_engine_changes.specs.RowsLostLaws.{nothing_lost}
-use Rattle.mg_engine_steps.specs.TablesBack.{TablesGoOn}
+use Rattle.mg_engine_steps.specs.MidwayLaws.{lasts_of}
+use Rattle.mg_engine_steps.specs.TablesBack.{RowsGoOn}
+use Rattle.mg_image.specs.Form.{packed_form}
 use Rattle.mg_space.specs.declared.links.FireLinks.{FireLinks}
 
 -- ---- lists
@@ -61,9 +62,9 @@ keys_on : (keys more rows all left : List Change) → all ≡ keys ++ more → A
 keys_on keys more rows all left parts are = subst (λ (cs : List Change). AreKeysOf cs left) (append_assoc keys more rows)
     (subst (λ (cs : List Change). AreKeysOf (cs ++ rows) left) parts are)
 
-module _ {D P : Type 0} (m : Meaning D) (known : KnownOfBacks D P m) (apart : GivenApart) (rows_law : RowsAreLeft)
-    (tell : ListsTellWhole) (go_on : TablesGoOn D FireLinks m) (old begun stopped : Core D) (t : TxNo) (point : Point) (undo : Undo) (refusal : Refusal) (core : IsCore m old)
-    (has_begun : HasBegun old begun t.0 undo) (reaches : MayReach undo point) where
+module _ {D P : Type 0} (m : Meaning D) (known : KnownOfBacks D P m) (apart : GivenApart)
+    (go_on : RowsGoOn D FireLinks m) (old begun stopped : Core D) (t : TxNo) (point : Point) (undo : Undo)
+    (refusal : Refusal) (core : IsCore m old) (has_begun : HasBegun old begun t.0 undo) (reaches : MayReach undo point) where
   abbrev page : ℕ
   page = old.catalog.pointer.0
 
@@ -148,10 +149,13 @@ module _ {D P : Type 0} (m : Meaning D) (known : KnownOfBacks D P m) (apart : Gi
           mid = at_core;
           image = (has_taken o h stands shows).image;
           taken = has_taken o h stands shows;
-          lost = nothing_lost m known.one_way old.store.geometry.size o h (entry (back_event t point) Fine) t.0
+          lost = nothing_lost m known.one_way old.store.geometry.size o h t.0
               (standing_of old stands.numbers stands.tables) old.store at_core (has_taken o h stands shows).image
-              (asked_in (with_work t.0 unasked old.works)) (sessions_in old.works) (has_taken o h stands shows).rest
-              (has_taken o h stands shows).midway.cache (known_store (has_taken o h stands shows).knows)
+              (asked_in (with_work t.0 unasked old.works)) (sessions_in old.works)
+              (lasts_of m packed_form old.store.geometry.size o h (entry (back_event t point) Fine) t.0
+              (has_taken o h stands shows).rest (standing_of old stands.numbers stands.tables) old.store at_core.store
+              (has_taken o h stands shows).image (asked_in (with_work t.0 unasked old.works)) (sessions_in old.works)
+              (has_taken o h stands shows).midway.cache) (known_store (has_taken o h stands shows).knows)
               (has_taken o h stands shows).knows.size_is;
         };
       }
@@ -168,12 +172,9 @@ module _ {D P : Type 0} (m : Meaning D) (known : KnownOfBacks D P m) (apart : Gi
       stops_so stops.given rest.0 rest.1 all stops.at stops.takes (stops_as m known.counts_now stops.at stopped t.0
       stops.change refusal has.pool has.on.online stops.fails)
 
-  pub stops_over : (keys : List Value) → AreRowsToTake begun.catalog.pointer.0 (going_to undo point) keys
-      → StopsBoth m (not_asking t.0 begun) stopped t.0 (going_to undo point) keys refusal
+  pub stops_over : (keys : List Value) → StopsBoth m (not_asking t.0 begun) stopped t.0 (going_to undo point) keys refusal
       → StopsAfter m old begun stopped t point refusal
-  stops_over keys rows_to (stops_at_other stops) = at_other stops
-  stops_over keys rows_to (stops_at_rows mid end others_ fails) =
-      let taken_ = taken_mid m known apart rows_law tell go_on old begun stopped t point undo refusal core has_begun
-      reaches mid end keys rows_to others_ in
-      at_rows m known apart rows_law tell go_on old begun stopped t point undo refusal core has_begun reaches mid end keys
-      rows_to others_ (stops_among m t.0 refusal keys mid stopped taken_.pool taken_.on.online fails)
+  stops_over keys (stops_at_other stops) = at_other stops
+  stops_over keys (stops_at_rows mid end others_ fails) =
+      at_rows m known apart go_on old begun stopped t point undo refusal core has_begun reaches mid end others_
+      (stops_among m t.0 refusal keys mid stopped fails)

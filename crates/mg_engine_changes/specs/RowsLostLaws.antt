@@ -1,5 +1,5 @@
--- Rows of the catalog are taken out table by table, as far as it goes.
-use Rattle.std.proofs.Common.{◌≡◌, ◌∙◌, ◌∷◌, [], ℕ, List, Option, ap, false, inl, inr, refl, subst, sym, ◌⊎◌, ◌≢◌, ◌++◌}
+-- Rows of the catalog are taken out one after another, as far as it goes.
+use Rattle.std.proofs.Common.{◌≡◌, ◌∙◌, ◌∷◌, [], ℕ, List, Option, Some, ap, false, inl, inr, refl, subst, sym, ◌⊎◌, ◌++◌}
 use Rattle.std.proofs.lemmas.Bool.{eq-eqb}
 use Rattle.mg_base.specs.Disk.{Meaning}
 use Rattle.mg_base.specs.Image.{Image}
@@ -9,27 +9,25 @@ use Rattle.mg_chain.specs.Chains.{takes_version}
 use Rattle.mg_core.specs.Cores.{IsCatalog}
 use Rattle.mg_core.specs.declared.parts.Core.{Core}
 use Rattle.mg_engine_changes.specs.Chains.{HasTaken}
-use Rattle.mg_engine_changes.specs.CoreRows.{HasTakenRows, KnowsStore}
-use Rattle.mg_engine_changes.specs.CoreRowsLaws.{catalog_mid, core_mid, first, live_mid, midway_mid, state_mid, turn}
+use Rattle.mg_engine_changes.specs.CoreRows.{HasTakenRow, KnowsStore}
+use Rattle.mg_engine_changes.specs.CoreRowsLaws.{catalog_mid, core_mid, first, lasts_mid, live_mid, state_mid, turn}
 use Rattle.mg_engine_changes.specs.Keys.{HasCatalog}
 use Rattle.mg_engine_changes.specs.MadeLaws.{on_then, own_on}
 use Rattle.mg_engine_changes.specs.RowWalks.{ShowsOn, row_at_record}
 use Rattle.mg_engine_changes.specs.RowWalksLaws.{row_walks_go_on}
-use Rattle.mg_engine_changes.specs.RowsLost.{HasLost, LoseRows, TakesFirst, no_first, one_first}
+use Rattle.mg_engine_changes.specs.RowsLost.{HasLost, LoseRows}
 use Rattle.mg_engine_changes.specs.TipLaws.{tips_then}
 use Rattle.mg_engine_changes.specs.Tips.{KeepsTips}
 use Rattle.mg_engine_meaning.specs.Falling.{all_but}
-use Rattle.mg_engine_steps.specs.Again.{again, without_rows}
-use Rattle.mg_engine_steps.specs.GoesOnLaws.{pool_is_kept}
+use Rattle.mg_engine_steps.specs.Again.{rolling}
+use Rattle.mg_engine_steps.specs.DeadMidway.{dead_pool, every_from}
 use Rattle.mg_engine_steps.specs.Known.{IsShown}
 use Rattle.mg_engine_steps.specs.ListShows.{tips_stay_on}
-use Rattle.mg_engine_steps.specs.Midway.{GoesBack, IsMidway}
+use Rattle.mg_engine_steps.specs.Midway.{GoesBack, LastsDead}
 use Rattle.mg_engine_steps.specs.Outs.{GoesWhole, RowsGone}
-use Rattle.mg_engine_steps.specs.RowsLeft.{rows_on}
 use Rattle.mg_engine_steps.specs.Standing.{Remembers, Standing}
-use Rattle.mg_engine_steps.specs.TablesBack.{AreRowsLeft, StoodBefore, TablesGoOn}
+use Rattle.mg_engine_steps.specs.TablesBack.{RowsGoOn, StoodBeside}
 use Rattle.mg_engine_steps.specs.Walking.{AreToCome, WalkPlace}
-use Rattle.mg_grown_catalogs.specs.Grown.{CatalogGrows}
 use Rattle.mg_header.specs.HeaderPage.{header_in}
 use Rattle.mg_image.specs.Form.{Pages, packed_form}
 use Rattle.mg_image.specs.Records.{Reading, shown as shown_row, writer}
@@ -43,29 +41,29 @@ use Rattle.mg_model.specs.Changes.{KeyedRows}
 use Rattle.mg_model.specs.History.{Entries, Entry}
 use Rattle.mg_model.specs.Legal.{IsLegal, MayBegin}
 use Rattle.mg_model.specs.Openings.{everyone}
-use Rattle.mg_model.specs.declared.change.Change.{Change}
 use Rattle.mg_model.specs.declared.change.Point.{Point}
 use Rattle.mg_model.specs.declared.opening.Opening.{Opening}
 use Rattle.mg_model.specs.declared.table.Table.{Table}
 use Rattle.mg_overlays.specs.Overlays.{left_state}
-use Rattle.mg_pool.specs.Pool.{shown}
+use Rattle.mg_model.specs.Machine.{state_of}
+use Rattle.mg_pool.specs.Pool.{IsPool, shown}
 use Rattle.mg_pool.specs.declared.pool.Pool.{Pool}
 use Rattle.mg_pool_overlays.specs.Needs.{Asked, Sessions}
 use Rattle.mg_seek.specs.Walks.{keyed}
 use Rattle.mg_space.specs.declared.links.FireLinks.{FireLinks}
-use Rattle.mg_table_takings.specs.Takings.{TakesTheRows}
-use Rattle.mg_table_unmaking.specs.Tables.{keys_with, keys_without}
+use Rattle.mg_table_takings.specs.Takings.{TakesRows, TakesTheRow, no_row, one_row}
+use Rattle.mg_ties.specs.Changed.{KeptIn}
 use Rattle.mg_txlist.specs.TxList.{said}
 use Rattle.mg_value.specs.declared.value.Value.{Value}
 
 -- ---- the store
 
 -- the store has gone on, and nothing else has changed
-pub first_taken : {D : Type 0} (m : Meaning D) (t : ℕ) (keys : List Value) (begun old new : Core D) → HasTaken m begun old
-    → TakesFirst m t keys old new → HasTaken m begun new
-first_taken {D} m t keys begun old new taken (no_first its core) = taken
-first_taken {D} m t all begun old new taken (one_first key keys first mid end takes more) =
-    first_taken m t (keys_without key (key ∷ keys)) begun mid end (record {
+pub rows_on : {D : Type 0} (m : Meaning D) (t : ℕ) (keys : List Value) (begun old new : Core D) → HasTaken m begun old
+    → TakesRows m t keys old new → HasTaken m begun new
+rows_on {D} m t keys begun old new taken (no_row core) = taken
+rows_on {D} m t all begun old new taken (one_row key keys first mid end takes more) =
+    rows_on m t keys begun mid end (record {
       on = on_then m begun.store first.store mid.store taken.on (own_on m first.store mid.store _ takes.takes);
       pool = takes.takes.changed.pool;
       same = takes.same ∙ ap (λ (c : Core D). record c { store = mid.store }) taken.same;
@@ -75,20 +73,16 @@ first_taken {D} m t all begun old new taken (one_first key keys first mid end ta
 
 -- nothing was taken out
 pub nothing_lost : {D : Type 0} (m : Meaning D) → StandsOneWay packed_form → (size : ℕ) (o : Opening) (h : Entries)
-    (e : Entry) (t : ℕ) (s : Standing) (start : Pool D FireLinks) (core : Core D) (i : Image) (asked : Asked)
-    (session : Sessions) (left : List Change)
-    → IsMidway m packed_form size o h e t left s start core.store i asked session → KnowsStore m core.store i
-    → core.store.geometry.size ≡ size → HasLost m size o h e t s start core core i i asked session
-nothing_lost m one_way size o h e t s start core i asked session left midway knows size_is = record {
-  left = left;
-  cache = midway;
+    (t : ℕ) (s : Standing) (start : Pool D FireLinks) (core : Core D) (i : Image) (asked : Asked) (session : Sessions)
+    → LastsDead m packed_form size o h t start core.store asked session → KnowsStore m core.store i
+    → core.store.geometry.size ≡ size → HasLost m size o h t s start core core i i asked session
+nothing_lost m one_way size o h t s start core i asked session lasts knows size_is = record {
+  cache = lasts;
   loses = λ a b r q first second. let once : (a ≡ b) × (r ≡ q) = one_way size (left_state (all_but t) s.state)
       (shown core.store.dirty i) a b r q first second in
       (once.0, λ p. inl (ap (λ (x : Reading). x p) (sym once.1)));
-  lists = record {
-    tips = record { tips = λ sequence below. (refl, refl); next = refl; catalog = refl };
-    plain = λ plain. plain;
-  };
+  tips = record { tips = λ sequence below. (refl, refl); next = refl; catalog = refl };
+  stood = λ chosen off layout q sound its of. record { layout = layout; reading = q; sound = sound; of = of };
   knows = knows;
   size_is = size_is;
   same = refl;
@@ -122,30 +116,29 @@ lose_join size state t old mid new c z sound first second a b r q before after =
     at p (inl same) (inl still) = inl (still ∙ same)
     at p (inl same) (inr went) = inr (subst (λ (es : List Read). GoesWhole t es (q p)) same went)
 
-module _ {D : Type 0} (m : Meaning D) (holds : HoldsOne D m) (go_on : TablesGoOn D FireLinks m)
+module _ {D : Type 0} (m : Meaning D) (holds : HoldsOne D m) (go_on : RowsGoOn D FireLinks m)
     (one_way : StandsOneWay packed_form) (o : Opening) (h : Entries) (e : Entry) (point : Point) (s : Standing)
     (start : Pool D FireLinks) (asked : Asked) (session : Sessions) (t : ℕ) (opening : MayBegin o)
-    (legal : IsLegal o (e ∷ h)) (grows : CatalogGrows o h) (memory : Remembers o h s)
-    (goes : GoesBack o h e point s asked t) where
-  -- what the rows of one table are to the pages where the transaction counts as dead
-  module _ (size : ℕ) (left later : List Change) (before after : Pool D FireLinks) (i j : Image) (keys : List Value)
-      (midway : IsMidway m packed_form size o h e t left s start before i asked session)
-      (done : IsMidway m packed_form size o h e t later s start after j asked session)
-      (gone : RowsGone packed_form size o (again t left (e ∷ h)) s.state t keys (shown before.dirty i)
-      (shown after.dirty j)) where
-    off : all_but t t ≡ false
-    off = rw (eq-eqb t t refl) refl
+    (legal : IsLegal o h) (memory : Remembers o h s) (goes : GoesBack o h e point s asked t) where
+  off : all_but t t ≡ false
+  off = rw (eq-eqb t t refl) refl
 
-    kept : IsKept packed_form size o (again t left (e ∷ h)) (left_state (all_but t) s.state) (shown before.dirty i)
-        (shown before.dirty i)
-    kept = pool_is_kept packed_form D FireLinks size o (again t left (e ∷ h)) s.state asked session before i (all_but t)
-        midway.kept
+  -- the pages are what they have to be where the transaction counts as dead
+  dead_at : (size : ℕ) (pool : Pool D FireLinks) (i : Image) → IsPool m pool → m.held pool.disk ≡ Some i
+      → pool.geometry.size ≡ size → LastsDead m packed_form size o h t start pool asked session
+      → IsKept packed_form size o (e ∷ h) (left_state (all_but t) s.state) (shown pool.dirty i) (shown pool.dirty i)
+  dead_at size pool i is_pool held size_is lasts = dead_pool o h e point s asked t memory goes packed_form size pool i
+      session [] (subst (λ (n : ℕ). KeptIn packed_form n o (rolling t ∷ h) (state_of o (rolling t ∷ h)) asked session pool
+      i) size_is (every_from m packed_form o (rolling t ∷ h) pool i asked session is_pool held lasts.lasts)) (all_but t)
+      off
 
-    then_ : IsKept packed_form size o (again t later (e ∷ h)) (left_state (all_but t) s.state) (shown after.dirty j)
-        (shown after.dirty j)
-    then_ = pool_is_kept packed_form D FireLinks size o (again t later (e ∷ h)) s.state asked session after j (all_but t)
-        done.kept
-
+  -- what a row is to the pages where the transaction counts as dead
+  module _ (size : ℕ) (before after : Pool D FireLinks) (i j : Image) (keys : List Value)
+      (kept : IsKept packed_form size o (e ∷ h) (left_state (all_but t) s.state) (shown before.dirty i)
+      (shown before.dirty i))
+      (then_ : IsKept packed_form size o (e ∷ h) (left_state (all_but t) s.state) (shown after.dirty j)
+      (shown after.dirty j))
+      (gone : RowsGone packed_form size o (e ∷ h) s.state t keys (shown before.dirty i) (shown after.dirty j)) where
     loses_so : LoseRows size s.state t (shown before.dirty i) (shown after.dirty j)
     loses_so a b r q first second =
         let its : (kept.of_pool ≡ a) × (kept.in_pool ≡ r) = one_way size (left_state (all_but t) s.state)
@@ -167,84 +160,79 @@ module _ {D : Type 0} (m : Meaning D) (holds : HoldsOne D m) (go_on : TablesGoOn
           catalog = ap (λ (bytes : List ℕ). (header_in bytes).catalog.0) header;
         }
 
-  -- the rows of one table, and then those of others
-  module _ (left : List Change) (key : Value) (keys : List Value) (begun mid : Core D) (i : Image)
-      (rows : AreRowsLeft o h e t left (key ∷ keys))
-      (midway : IsMidway m packed_form begun.store.geometry.size o h e t left s start begun.store i asked session)
+  -- one row, and then others
+  module _ (key : Value) (begun mid : Core D) (i : Image)
+      (lasts : LastsDead m packed_form begun.store.geometry.size o h t start begun.store asked session)
       (core : IsCatalog begun.catalog) (state : s.state ≡ said begun.list) (live : s.live ≡ begun.live)
       (knows : KnowsStore m begun.store i) (catalog : HasCatalog begun begun.store i)
-      (takes : TakesTheRows m begun mid t (keys_with key (key ∷ keys))) where
-    abbrev later : List Change
-    later = without_rows (keys_with key (key ∷ keys)) left
+      (takes : TakesTheRow m begun mid t key) where
+    abbrev size : ℕ
+    size = begun.store.geometry.size
 
-    abbrev one_out : HasTakenRows m s t (keys_with key (key ∷ keys)) begun mid i
-    one_out = first m holds go_on o h e point s start asked session t opening legal grows memory goes left key keys begun mid i rows midway core state live knows catalog takes
+    abbrev one_out : HasTakenRow m s t key begun mid i
+    one_out = first m holds go_on o h e point s start asked session t opening legal memory goes key begun mid i lasts core
+        state live knows catalog takes
 
-    one_turn : IsMidway m packed_form begun.store.geometry.size o h e t (without_rows (keys_with key (key ∷ keys)) left) s
-        start mid.store one_out.image asked session
-        × RowsGone packed_form begun.store.geometry.size o (again t left (e ∷ h)) s.state t (keys_with key (key ∷ keys))
+    one_turn : LastsDead m packed_form begun.store.geometry.size o h t start mid.store asked session
+        × RowsGone packed_form begun.store.geometry.size o (e ∷ h) s.state t (key ∷ [])
         (shown begun.store.dirty i) (shown mid.store.dirty one_out.image)
         × (shown mid.store.dirty one_out.image 0 ≡ shown begun.store.dirty i 0)
-        × StoodBefore begun.store.geometry.size s.state (shown begun.store.dirty i) (shown mid.store.dirty one_out.image)
-    one_turn = turn m holds go_on o h e point s start asked session t opening legal grows memory goes left key keys begun mid i rows midway core state live knows catalog takes
+        × StoodBeside begun.store.geometry.size s.state t (shown begun.store.dirty i) (shown mid.store.dirty one_out.image)
+    one_turn = turn m holds go_on o h e point s start asked session t opening legal memory goes key begun mid i lasts core
+        state live knows catalog takes
 
-    dead_mid : IsKept packed_form begun.store.geometry.size o
-        (again t (without_rows (keys_with key (key ∷ keys)) left) (e ∷ h)) (left_state (all_but t) s.state)
+    dead_begun : IsKept packed_form begun.store.geometry.size o (e ∷ h) (left_state (all_but t) s.state)
+        (shown begun.store.dirty i) (shown begun.store.dirty i)
+    dead_begun = dead_at size begun.store i knows.pool_is knows.tells.held refl lasts
+
+    dead_mid : IsKept packed_form begun.store.geometry.size o (e ∷ h) (left_state (all_but t) s.state)
         (shown mid.store.dirty one_out.image) (shown mid.store.dirty one_out.image)
-    dead_mid = pool_is_kept packed_form D FireLinks begun.store.geometry.size o
-        (again t (without_rows (keys_with key (key ∷ keys)) left) (e ∷ h)) s.state asked session mid.store one_out.image
-        (all_but t) one_turn.0.kept
+    dead_mid = dead_at size mid.store one_out.image one_out.step.pool one_out.step.held one_out.step.size_is one_turn.0
 
     after_one : (end : Core D) (j : Image)
-        → HasLost m mid.store.geometry.size o h e t s start mid end one_out.image j asked session
-        → HasLost m begun.store.geometry.size o h e t s start begun end i j asked session
-    after_one end j lost = by (subst (λ (n : ℕ). HasLost m n o h e t s start mid end one_out.image j asked session)
+        → HasLost m mid.store.geometry.size o h t s start mid end one_out.image j asked session
+        → HasLost m begun.store.geometry.size o h t s start begun end i j asked session
+    after_one end j lost = by (subst (λ (n : ℕ). HasLost m n o h t s start mid end one_out.image j asked session)
         one_out.step.size_is lost)
       where
-        by : HasLost m begun.store.geometry.size o h e t s start mid end one_out.image j asked session
-            → HasLost m begun.store.geometry.size o h e t s start begun end i j asked session
+        by : HasLost m begun.store.geometry.size o h t s start mid end one_out.image j asked session
+            → HasLost m begun.store.geometry.size o h t s start begun end i j asked session
         by more = record {
-          left = more.left;
           cache = more.cache;
           loses = lose_join begun.store.geometry.size s.state t (shown begun.store.dirty i)
               (shown mid.store.dirty one_out.image) (shown end.store.dirty j) dead_mid.of_pool dead_mid.in_pool
               dead_mid.pool_sound
-              (loses_so begun.store.geometry.size left later begun.store mid.store i one_out.image
-              (keys_with key (key ∷ keys)) midway one_turn.0 one_turn.1) more.loses;
-          lists = record {
-            tips = tips_then tips_stay_on begun.store.geometry.size (shown begun.store.dirty i)
-                (shown mid.store.dirty one_out.image) (shown end.store.dirty j)
-                (tips_so begun.store.geometry.size left later begun.store mid.store i one_out.image
-                (keys_with key (key ∷ keys)) midway one_turn.0 one_turn.1 one_turn.2) more.lists.tips;
-            plain = λ plain. more.lists.plain (λ chosen layout q sound table of.
-                let stood = one_turn.3 chosen layout q sound table of in
-                plain chosen stood.layout stood.reading stood.sound table stood.of);
-          };
+              (loses_so size begun.store mid.store i one_out.image (key ∷ []) dead_begun dead_mid one_turn.1) more.loses;
+          tips = tips_then tips_stay_on begun.store.geometry.size (shown begun.store.dirty i)
+              (shown mid.store.dirty one_out.image) (shown end.store.dirty j)
+              (tips_so size begun.store mid.store i one_out.image (key ∷ []) dead_begun dead_mid one_turn.1 one_turn.2)
+              more.tips;
+          stood = λ chosen out layout q sound table of.
+              let stood = more.stood chosen out layout q sound table of in
+              one_turn.3 chosen out stood.layout stood.reading stood.sound table stood.of;
           knows = more.knows;
           size_is = more.size_is;
           same = more.same ∙ ap (λ (c : Core D). record c { store = end.store }) takes.same;
         }
 
-  -- those of the first tables
-  pub rows_lost : (left : List Change) (keys : List Value) (old new : Core D) (i : Image)
-      → AreRowsLeft o h e t left keys
-      → IsMidway m packed_form old.store.geometry.size o h e t left s start old.store i asked session
+  -- those of some keys
+  pub rows_lost : (keys : List Value) (old new : Core D) (i : Image)
+      → LastsDead m packed_form old.store.geometry.size o h t start old.store asked session
       → IsCatalog old.catalog → s.state ≡ said old.list → s.live ≡ old.live → KnowsStore m old.store i
-      → HasCatalog old old.store i → TakesFirst m t keys old new
-      → (j : Image) × HasLost m old.store.geometry.size o h e t s start old new i j asked session
-  rows_lost left keys old new i rows midway core state live knows catalog (no_first its it) =
-      (i, nothing_lost m one_way it.store.geometry.size o h e t s start it i asked session left midway knows refl)
-  rows_lost left all old new i rows midway core state live knows catalog (one_first key keys begun mid end takes more) =
-      let rest = rows_lost (without_rows (keys_with key (key ∷ keys)) left) (keys_without key (key ∷ keys)) mid end
-      (one_out left key keys begun mid i rows midway core state live knows catalog takes).image
-      (rows_on o h e t left key (key ∷ keys) rows)
-      (midway_mid m holds go_on o h e point s start asked session t opening legal grows memory goes left key keys begun mid i rows midway core state live knows catalog takes)
-      (core_mid m holds go_on o h e point s start asked session t opening legal grows memory goes left key keys begun mid i rows midway core state live knows catalog takes)
-      (state_mid m holds go_on o h e point s start asked session t opening legal grows memory goes left key keys begun mid i rows midway core state live knows catalog takes)
-      (live_mid m holds go_on o h e point s start asked session t opening legal grows memory goes left key keys begun mid i rows midway core state live knows catalog takes)
-      (one_out left key keys begun mid i rows midway core state live knows catalog takes).knows
-      (catalog_mid m holds go_on o h e point s start asked session t opening legal grows memory goes left key keys begun mid i rows midway core state live knows catalog takes) more in
-      (rest.0, after_one left key keys begun mid i rows midway core state live knows catalog takes end rest.0 rest.1)
+      → HasCatalog old old.store i → TakesRows m t keys old new
+      → (j : Image) × HasLost m old.store.geometry.size o h t s start old new i j asked session
+  rows_lost keys old new i lasts core state live knows catalog (no_row it) =
+      (i, nothing_lost m one_way it.store.geometry.size o h t s start it i asked session lasts knows refl)
+  rows_lost all old new i lasts core state live knows catalog (one_row key keys begun mid end takes more) =
+      let rest = rows_lost keys mid end (one_out key begun mid i lasts core state live knows catalog takes).image
+      (lasts_mid m holds go_on o h e point s start asked session t opening legal memory goes key begun mid i lasts core state live knows catalog takes)
+      (core_mid m holds go_on o h e point s start asked session t opening legal memory goes key begun mid i lasts core state live knows catalog takes)
+      (state_mid m holds go_on o h e point s start asked session t opening legal memory goes key begun mid i lasts core state live knows catalog takes)
+      (live_mid m holds go_on o h e point s start asked session t opening legal memory goes key begun mid i lasts core state live knows catalog takes)
+      (one_out key begun mid i lasts core state live knows catalog takes).knows
+      (catalog_mid m holds go_on o h e point s start asked session t opening legal memory goes key begun mid i lasts core state live knows catalog takes)
+      more in
+      (rest.0, after_one key begun mid i lasts core state live knows catalog takes end rest.0 rest.1)
 
 -- ---- walks
 

@@ -15,12 +15,13 @@ use Rattle.mg_engine_changes.specs.RowsLostLaws.{nothing_lost}
 use Rattle.mg_engine_changes.specs.Stopping.{StopsAs, stops_as}
 use Rattle.mg_engine_changes.specs.StopsAfter.{StopsAfter, begun_as}
 use Rattle.mg_engine_meaning.specs.Standings.{ShowsIt, StandsFor, asked_in, sessions_in, standing_of, undo_kept}
+use Rattle.mg_engine_steps.specs.MidwayLaws.{lasts_of}
 use Rattle.mg_engine_steps.specs.Standing.{Standing}
 use Rattle.mg_engine_changes.specs.EngineBacks.{IsBackEntry}
 use Rattle.mg_engine_changes.specs.Given.{AreGiven}
 use Rattle.mg_engine_changes.specs.Keys.{HasTakenKeys, IsOfTable}
 use Rattle.mg_engine_changes.specs.ToTake.{AreKeysOf, EachChange, since_point}
-use Rattle.mg_image.specs.Form.{Pages}
+use Rattle.mg_image.specs.Form.{Pages, packed_form}
 use Rattle.mg_model.specs.History.{Entries, Entry, entry}
 use Rattle.mg_model.specs.Machine.{deeds_by, own, steps}
 use Rattle.mg_model.specs.Openings.{everyone}
@@ -138,10 +139,12 @@ module _ {D P : Type 0} (m : Meaning D) (known : KnownOfBacks D P m) (old begun 
         (midway m known old begun t point undo core has_begun o h stands shows)
         (knows m known old begun t point undo core has_begun o h stands shows) shows.catalog
 
-    none_lost : HasLost m size o h e t.0 s old.store stops.at stops.at has_taken.image has_taken.image
+    none_lost : HasLost m size o h t.0 s old.store stops.at stops.at has_taken.image has_taken.image
         (asked_in (with_work t.0 unasked old.works)) (sessions_in old.works)
-    none_lost = nothing_lost m known.one_way size o h e t.0 s old.store stops.at has_taken.image
-        (asked_in (with_work t.0 unasked old.works)) (sessions_in old.works) has_taken.rest has_taken.midway.cache
+    none_lost = nothing_lost m known.one_way size o h t.0 s old.store stops.at has_taken.image
+        (asked_in (with_work t.0 unasked old.works)) (sessions_in old.works)
+        (lasts_of m packed_form size o h e t.0 has_taken.rest s old.store stops.at.store has_taken.image
+        (asked_in (with_work t.0 unasked old.works)) (sessions_in old.works) has_taken.midway.cache)
         (record {
           pool_is = has_taken.knows.pool_is;
           geometry = has_taken.knows.geometry;

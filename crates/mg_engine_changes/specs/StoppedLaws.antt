@@ -1,6 +1,7 @@
 -- A change was not taken back, and so the transaction is rolled back: its engine stands for the history with the refused
 -- event and the rollback.
 use Rattle.std.proofs.Common.{◌≡◌, ◌≢◌, ◌⊎◌, ◌∙◌, ◌∷◌, ◌==◌, ◌≤◌, [], ℕ, Bool, Err, List, None, Option, Some, ap, false, inl, inr, not, refl, subst, sym, true}
+use Rattle.std.proofs.Math.Path.{fun_ext}
 use Rattle.std.proofs.lemmas.Bool.{cases_eq, eq-eqb, ne_eqb}
 use Rattle.std.specs.Prelude.{if◌then◌else◌}
 use Rattle.mg_base.specs.Disk.{Meaning}
@@ -27,7 +28,6 @@ use Rattle.mg_engine_changes.specs.StopsAfterLaws.{counts, ends_over, keeps_list
 use Rattle.mg_engine_meaning.specs.StepLaws.{shows_of}
 use Rattle.mg_engine_meaning.specs.Freeing.{sessions_end}
 use Rattle.mg_engine_meaning.specs.Leaving.{follows_end, given_same, seen_still, still_active}
-use Rattle.mg_engine_meaning.specs.RollbackEnds.{none_by_dead}
 use Rattle.mg_engine_meaning.specs.Falling.{Falls, all_but}
 use Rattle.mg_engine_meaning.specs.FrameLaws.{apart_from, commits_of, keeps_of, quiet_of, tables_of}
 use Rattle.mg_engine_meaning.specs.KeptLaws.{kept_without_work}
@@ -45,6 +45,9 @@ use Rattle.mg_engine_steps.specs.PageWrites.{KeepAsking}
 use Rattle.mg_engine_steps.specs.Standing.{Standing, Stands}
 use Rattle.mg_engine_steps.specs.Walking.{AreToCome, WalkPlace}
 use Rattle.mg_engine_changes.specs.BackLists.{KeepsLists}
+use Rattle.mg_engine_changes.specs.Tips.{KeepsTips}
+use Rattle.mg_engine_steps.specs.Claims.{left_same}
+use Rattle.mg_engine_steps.specs.TablesBack.{StoodUnder}
 use Rattle.mg_engine_changes.specs.BackWalks.{WalksBeside}
 use Rattle.mg_engine_changes.specs.GivenUp.{GivesUp}
 use Rattle.mg_engine_changes.specs.TakingSteps.{StandsMidway}
@@ -70,7 +73,7 @@ use Rattle.mg_model.specs.declared.change.Point.{Point}
 use Rattle.mg_model.specs.declared.opening.Opening.{Opening}
 use Rattle.mg_model.specs.declared.refusal.Refusal.{Refusal}
 use Rattle.mg_model.specs.declared.table.Table.{Table}
-use Rattle.mg_overlays.specs.Overlays.{left_by, left_state}
+use Rattle.mg_overlays.specs.Overlays.{left_by, left_state, without}
 use Rattle.mg_pool.specs.Dirty.{DirtyPages}
 use Rattle.mg_pool.specs.Pool.{shown}
 use Rattle.mg_records.specs.Keeping.{WalksStay}
@@ -290,9 +293,29 @@ module _ {D P : Type 0} (m : Meaning D) (places : Places P) (known : KnownOfBack
     lists_mid : KeepsLists size s (shown old.store.dirty shows.image) (shown some.mid.store.dirty some.taken.image)
     lists_mid = keeps_lists m known old begun stopped t point undo refusal core has_begun stops o h stands
 
-    lists_now : KeepsLists size s (shown some.mid.store.dirty some.taken.image) (shown stopped.store.dirty image)
-    lists_now = subst (λ (x : Pages). KeepsLists size s (shown some.mid.store.dirty some.taken.image) x) (sym same_shown)
-        some.lost.lists
+    kept_tips : KeepsTips size (shown some.mid.store.dirty some.taken.image) (shown stopped.store.dirty image)
+    kept_tips = subst (λ (x : Pages). KeepsTips size (shown some.mid.store.dirty some.taken.image) x) (sym same_shown)
+        some.lost.tips
+
+    -- with the transaction dead each table that stands then stood after the keys
+    plain_now : HasPlainTables size (said new.list) (shown stopped.store.dirty image)
+    plain_now chosen layout q sound its of = lists_mid.plain shows.plain_tables (without t.0 chosen) stood.layout
+        stood.reading stood.sound its stood.of
+      where
+        off : without t.0 chosen t.0 ≡ false
+        off = rw (eq-eqb t.0 t.0 refl) refl
+
+        dead_alike : left_state (without t.0 chosen) (said old.list) ≡ left_state chosen (said new.list)
+        dead_alike = fun_ext (left_same t.0 (said old.list) (said new.list) ends_now.here ends_now.others
+            has_begun.continues.1 chosen)
+
+        stood : StoodUnder size (left_state (without t.0 chosen) (said old.list))
+            (shown some.mid.store.dirty some.taken.image) its
+        stood = some.lost.stood (without t.0 chosen) off layout q
+            (subst (λ (x : ℕ → TxState). IsSoundBy packed_form size x (shown stops.at.store.dirty image) layout q)
+            (sym dead_alike)
+            (subst (λ (x : Pages). IsSoundBy packed_form size (left_state chosen (said new.list)) x layout q) same_shown
+            sound)) its of
 
     tips_mid : HasTips old.list size (shown some.mid.store.dirty some.taken.image)
     tips_mid = known.lists old.list old.list size (shown old.store.dirty shows.image)
@@ -308,12 +331,10 @@ module _ {D P : Type 0} (m : Meaning D) (places : Places P) (known : KnownOfBack
       tips = subst (λ (n : ℕ). HasTips new.list n (shown stopped.store.dirty image))
           (sym its_end.size)
           (known.lists old.list new.list size (shown some.mid.store.dirty some.taken.image)
-          (shown stopped.store.dirty image) ends_now.size pages_now lists_now.tips.next lists_now.tips.tips tips_mid);
-      catalog = some.taken.catalog ∙ sym lists_now.tips.catalog;
+          (shown stopped.store.dirty image) ends_now.size pages_now kept_tips.next kept_tips.tips tips_mid);
+      catalog = some.taken.catalog ∙ sym kept_tips.catalog;
       plain_tables = subst (λ (n : ℕ). HasPlainTables n (said new.list) (shown stopped.store.dirty image))
-          (sym its_end.size)
-          (none_by_dead size (said old.list) (said new.list) (shown stopped.store.dirty image) t.0 has_begun.continues.1
-          ends_now.here ends_now.others (lists_now.plain (lists_mid.plain shows.plain_tables)));
+          (sym its_end.size) plain_now;
     }
 
     abbrev stands_now : StandsFor m now o (rolling t.0 ∷ entry (back_event t point) (No refusal) ∷ h)

@@ -1,4 +1,4 @@
--- Taking back has stopped after some keys, and after the rows of some tables.
+-- Taking back has stopped after some keys, and after some rows of the catalog.
 use Rattle.std.specs.Prelude.{ℕ, List}
 use Rattle.mg_base.specs.Disk.{Meaning}
 use Rattle.mg_base.specs.Image.{Image}
@@ -39,7 +39,7 @@ pub record TakesSome {D : Type 0} (m : Meaning D) (old begun at : Core D) (t : T
       (standing_of old stands.numbers stands.tables) old.store old.store (shown old.store.dirty shows.image)
       shows.stands.shows shows.image (asked_in (with_work t.0 unasked old.works)) (sessions_in old.works)
       (begun_as old begun t.0) mid
-  pub lost : HasLost m old.store.geometry.size o h (entry (back_event t point) Fine) t.0
+  pub lost : HasLost m old.store.geometry.size o h t.0
       (standing_of old stands.numbers stands.tables) old.store mid at taken.image image
       (asked_in (with_work t.0 unasked old.works)) (sessions_in old.works)
 

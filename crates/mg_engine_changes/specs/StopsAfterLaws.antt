@@ -133,10 +133,9 @@ module _ {D P : Type 0} (m : Meaning D) (known : KnownOfBacks D P m) (old begun 
           size = some.taken.knows.size_is;
         };
         at = stops.at.store;
-        left = some.lost.left;
         cache = some.lost.cache;
         loses = some.lost.loses;
-        next = some.lost.lists.tips.next;
+        next = some.lost.tips.next;
         ends = record {
           pool = some.lost.knows.pool_is;
           held = some.lost.knows.tells.held;

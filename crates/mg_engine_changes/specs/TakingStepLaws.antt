@@ -6,8 +6,8 @@ use Rattle.mg_base.specs.Moments.{joined, leaves_as}
 use Rattle.mg_base.specs.declared.numbers.RecId.{RecId}
 use Rattle.mg_careful.specs.Graph.{PageGraph}
 use Rattle.mg_engine_steps.specs.Again.{again, rolling, without_key}
-use Rattle.mg_engine_steps.specs.Midway.{GoesBack, IsBackAt, IsMidway, KeysComeBack, KeysGoOut}
-use Rattle.mg_engine_steps.specs.MidwayLaws.{holds_back}
+use Rattle.mg_engine_steps.specs.Midway.{GoesBack, IsBackAt, IsMidway, KeysComeBack, KeysGoOut, LastsDead}
+use Rattle.mg_engine_steps.specs.MidwayLaws.{holds_back, lasts_of}
 use Rattle.mg_engine_steps.specs.Shown.{ShowsMidway, ShowsOnward, TakesKeyBack}
 use Rattle.mg_engine_steps.specs.Batches.{ReadsLast}
 use Rattle.mg_engine_steps.specs.Knowing.{WasChanged}
@@ -42,26 +42,21 @@ use Rattle.mg_value.specs.declared.value.Value.{Value}
 -- ---- pages were read
 
 module _ {D L : Type 0} (m : Meaning D) (reads : ReadsLast D L m packed_form) (size : ℕ) (o : Opening) (h : Entries)
-    (e : Entry) (point : Point) (s : Standing) (start before ready : Pool D L) (i : Image) (asked : Asked)
-    (session : Sessions) (t : ℕ) (left : List Change) (opening : MayBegin o) (legal : IsLegal o h)
-    (goes : GoesBack o h e point s asked t) (keeps : KeepsStore m before ready) (tells : m.tells before.disk ≡ true)
+    (t : ℕ) (start before ready : Pool D L) (asked : Asked) (session : Sessions) (opening : MayBegin o)
+    (legal : IsLegal o (rolling t ∷ h)) (keeps : KeepsStore m before ready) (tells : m.tells before.disk ≡ true)
     (page_size : before.dirty.size ≡ size)
-    (midway : IsMidway m packed_form size o h e t left s start before i asked session) where
+    (midway : LastsDead m packed_form size o h t start before asked session) where
   both : LastsOn m packed_form o (rolling t ∷ h) ready asked session
       × LeavesSince m before.disk ready.disk (HoldsAcknowledged packed_form before.dirty.size o (rolling t ∷ h))
-  both = reads o (rolling t ∷ h) before ready asked session opening (goes.ends, legal) tells keeps midway.lasts
+  both = reads o (rolling t ∷ h) before ready asked session opening legal tells keeps midway.lasts
 
   as_was : (c : Image) → HoldsAcknowledged packed_form before.dirty.size o (rolling t ∷ h) c
       → HoldsAcknowledged packed_form size o h c
   as_was c holds = subst (λ (n : ℕ). HoldsAcknowledged packed_form n o h c) page_size
       (holds_back packed_form before.dirty.size o h t c holds)
 
-  pub read_cache : IsMidway m packed_form size o h e t left s start ready i asked session
-  read_cache = record {
-    kept = subst (λ (d : DirtyPages). KeptIn packed_form size o (again t left (e ∷ h)) s.state asked session
-        (record ready { dirty = d }) i) (sym keeps.dirty)
-        (subst (λ (g : PageGraph). KeptIn packed_form size o (again t left (e ∷ h)) s.state asked session
-        (record ready { dirty = before.dirty; graph = g }) i) (sym keeps.graph) midway.kept);
+  pub read_lasts : LastsDead m packed_form size o h t start ready asked session
+  read_lasts = record {
     lasts = both.0;
     leaves = record {
       since = joined m start.disk before.disk ready.disk (HoldsAcknowledged packed_form size o h) midway.leaves.since
@@ -69,6 +64,26 @@ module _ {D L : Type 0} (m : Meaning D) (reads : ReadsLast D L m packed_form) (s
           (HoldsAcknowledged packed_form size o h) as_was both.1.since);
       left = λ c may. as_was c (both.1.left c may);
     };
+  }
+
+module _ {D L : Type 0} (m : Meaning D) (reads : ReadsLast D L m packed_form) (size : ℕ) (o : Opening) (h : Entries)
+    (e : Entry) (point : Point) (s : Standing) (start before ready : Pool D L) (i : Image) (asked : Asked)
+    (session : Sessions) (t : ℕ) (left : List Change) (opening : MayBegin o) (legal : IsLegal o h)
+    (goes : GoesBack o h e point s asked t) (keeps : KeepsStore m before ready) (tells : m.tells before.disk ≡ true)
+    (page_size : before.dirty.size ≡ size)
+    (midway : IsMidway m packed_form size o h e t left s start before i asked session) where
+  then_ : LastsDead m packed_form size o h t start ready asked session
+  then_ = read_lasts m reads size o h t start before ready asked session opening (goes.ends, legal) keeps tells page_size
+      (lasts_of m packed_form size o h e t left s start before i asked session midway)
+
+  pub read_cache : IsMidway m packed_form size o h e t left s start ready i asked session
+  read_cache = record {
+    kept = subst (λ (d : DirtyPages). KeptIn packed_form size o (again t left (e ∷ h)) s.state asked session
+        (record ready { dirty = d }) i) (sym keeps.dirty)
+        (subst (λ (g : PageGraph). KeptIn packed_form size o (again t left (e ∷ h)) s.state asked session
+        (record ready { dirty = before.dirty; graph = g }) i) (sym keeps.graph) midway.kept);
+    lasts = then_.lasts;
+    leaves = then_.leaves;
   }
 
 pub read_midway : {D L : Type 0} (m : Meaning D) → ReadsLast D L m packed_form → (size : ℕ) (o : Opening) (h : Entries)

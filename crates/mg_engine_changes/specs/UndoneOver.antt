@@ -10,9 +10,8 @@ use Rattle.mg_engine_changes.specs.Chains.{HasTaken, keys_taken}
 use Rattle.mg_engine_changes.specs.EngineOver.{EnginesGoOver, IsBackEntry, OthersWalkOver}
 use Rattle.mg_engine_changes.specs.OverEvents.{back_over}
 use Rattle.mg_table_takings.specs.Keys.{others_of}
-use Rattle.mg_table_takings.specs.Takings.{TakesBoth, TakesTables, TakesTablesTo, no_table, one_table, works_left}
-use Rattle.mg_table_unmaking.specs.Tables.{keys_without}
-use Rattle.mg_value.specs.declared.value.Value.{Value}
+use Rattle.mg_table_takings.specs.Takings.{TakesBoth, TakesTablesTo, works_left}
+use Rattle.mg_engine_changes.specs.RowsLostLaws.{rows_on}
 use Rattle.mg_engine_changes.specs.Outcomes.{back_event}
 use Rattle.mg_engine_meaning.specs.FrameLaws.{apart_from, commits_of, keeps_of, kept_all, quiet_of, sessions_of, tables_of, works_with}
 use Rattle.mg_engine_meaning.specs.Frames.{GivesEvent, WorksStay}
@@ -20,7 +19,7 @@ use Rattle.mg_engine_meaning.specs.LawfulLaws.{memory_of}
 use Rattle.mg_engine_meaning.specs.Meaning.{AreNext, Places, means, place_at}
 use Rattle.mg_engine_meaning.specs.Standings.{StandsFor, asked_kept, session_kept, sessions_in, standing_of}
 use Rattle.mg_engine_meaning.specs.StepLaws.{as_standing}
-use Rattle.mg_engine_changes.specs.MadeLaws.{on_then, own_on, stays_then}
+use Rattle.mg_engine_changes.specs.MadeLaws.{stays_then}
 use Rattle.mg_engine_steps.specs.Walking.{AreToCome, WalkPlace}
 use Rattle.mg_image.specs.Form.{packed_form}
 use Rattle.mg_lasting.specs.Crashes.{HoldsAcknowledged, LeavesSince}
@@ -37,17 +36,6 @@ use Rattle.mg_taking_back.specs.Taking.{not_asking}
 use Rattle.mg_undo.specs.Machine.{NotesDeeds, going_to}
 use Rattle.mg_txlist.specs.TxList.{said}
 use Rattle.mg_works.specs.Works.{Working, given_by, given_to, unasked, with_undo, with_work, without_tables, without_written}
-
--- the rows of table after table
-tables_on : {D : Type 0} (m : Meaning D) (t : ℕ) (keys : List Value) (begun old new : Core D) → HasTaken m begun old
-    → TakesTables m t keys old new → HasTaken m begun new
-tables_on {D} m t keys begun old new taken (no_table core) = taken
-tables_on {D} m t all begun old new taken (one_table key keys first mid end takes more) =
-    tables_on m t (keys_without key (key ∷ keys)) begun mid end (record {
-      on = on_then m begun.store first.store mid.store taken.on (own_on m first.store mid.store _ takes.takes);
-      pool = takes.takes.changed.pool;
-      same = takes.same ∙ ap (λ (c : Core D). record c { store = mid.store }) taken.same;
-    }) more
 
 module _ {D P : Type 0} (m : Meaning D) (places : Places P) (notes : NotesDeeds) (goes_over : EnginesGoOver D m)
     (walk_over : OthersWalkOver D m) (old new : Core D) (t : TxNo) (point : Point) (core : IsCore m old)
@@ -75,7 +63,7 @@ module _ {D P : Type 0} (m : Meaning D) (places : Places P) (notes : NotesDeeds)
   -- the batches with the rows
   taken : HasTaken m (record old { waits = takes.begun.waits; works = with_work t.0 unasked old.works })
       takes.takes.taken
-  taken = tables_on m t.0 takes.takes.keys (record old {
+  taken = rows_on m t.0 takes.takes.keys (record old {
     waits = takes.begun.waits;
     works = with_work t.0 unasked old.works;
   }) both.mid takes.takes.taken others both.rows

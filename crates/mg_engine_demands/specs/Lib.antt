@@ -17,8 +17,6 @@ pub mod Opening
 pub mod OpeningLaws
 pub mod OwnLaws
 pub mod RecordLaws
-pub mod RowsOut
-pub mod RowsOutLaws
 pub mod RunLaws
 pub mod Runs
 pub mod StoreLaws

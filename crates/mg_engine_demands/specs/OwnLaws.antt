@@ -11,7 +11,6 @@ use Rattle.mg_demands.specs.Runs.{IsLasting, Lasting}
 use Rattle.mg_image.specs.Records.{Reading}
 use Rattle.mg_image.specs.Tables.{Layout}
 use Rattle.mg_model.specs.Answers.{is_committed}
-use Rattle.mg_model.specs.Openings.{everyone}
 use Rattle.mg_model.specs.declared.table.Table.{Table}
 use Rattle.mg_overlays.specs.Overlays.{left_state}
 use Rattle.mg_pool.specs.Batch.{Changed, content_in, lists}
@@ -54,9 +53,10 @@ module _ {D : Type 0} (store : Pool D FireLinks) (image : Image) (fates : Fates)
       → HasNewest (viewed store image nothing_yet) rec newest owner was → (link : Link) → was.back ≡ Some link
       → it.settled link.tx.0 ≡ true
   behind_settled newest owner was newest_is link back = for.settled link.tx.0 ∙ ap is_committed
-      (left_committed (fates.state link.tx.0) (behind_committed store.geometry.size (left_state everyone fates.state)
-      (shown store.dirty image) layout r wanted (of_sound store image fates layout r t table wanted known) rec table on newest
-      was newest_is.head.slot newest_is.meets link back))
+      (left_committed (known.0.limbo link.tx.0) (fates.state link.tx.0) (behind_committed store.geometry.size
+      (left_state known.0.limbo fates.state) (shown store.dirty image) layout r wanted
+      (of_sound store image fates layout r t table wanted known) rec table on newest was newest_is.head.slot newest_is.meets
+      link back))
 
   module _ (v : Version) (its : v.tx.0 ≡ t) (replaces : Replaces store image nothing_yet batch rec v) where
     over : PutsAt store image nothing_yet batch replaces.newest.rec replaces.bytes
@@ -73,7 +73,7 @@ module _ {D : Type 0} (store : Pool D FireLinks) (image : Image) (fates : Fates)
 
     knows : KnowsTable store image nothing_yet replaces.owner t it.settled on_disk wanted
     knows = subst (λ (o : ℕ). KnowsTable store image nothing_yet o t it.settled on_disk wanted)
-        (sym (replaces.its.head.owned.is ∙ names_table store.geometry.size (left_state everyone fates.state)
+        (sym (replaces.its.head.owned.is ∙ names_table store.geometry.size (left_state known.0.limbo fates.state)
         (shown store.dirty image) layout r known.0.sound rec.page.0 table on))
         (knows_table store image fates layout r t table wanted known it on_disk lasting for has)
 

@@ -19,8 +19,7 @@ use Rattle.mg_engine_demands.specs.Fates.{AskingKeeps}
 use Rattle.mg_engine_demands.specs.Numbers.{CommitsKeep, DrawsKeep}
 use Rattle.mg_engine_demands.specs.Opening.{OpeningBears}
 use Rattle.mg_engine_demands.specs.OwnLaws.{replacements_pay, taking_out_pays}
-use Rattle.mg_engine_demands.specs.RowsOut.{RowsOutKeep}
-use Rattle.mg_engine_demands.specs.Runs.{Fills, GoesBy, GoesOn, Moment, RunsStayLinked, a_growth, a_place, a_record, a_replacement, a_table, a_taking_out, a_version, asks_commit, commits, draws, goes, only_reads, puts_batch, stays, takes_rows, tells, writes_pages}
+use Rattle.mg_engine_demands.specs.Runs.{Fills, GoesBy, GoesOn, Moment, RunsStayLinked, a_growth, a_place, a_record, a_replacement, a_table, a_taking_out, a_version, asks_commit, commits, draws, goes, only_reads, puts_batch, stays, tells, writes_pages}
 use Rattle.mg_engine_demands.specs.StoreLaws.{reads_keep}
 use Rattle.mg_engine_demands.specs.Stores.{BatchPays, PageWritesKeep, StoreBears, StoreChangesKeep}
 use Rattle.mg_engine_demands.specs.WriteLaws.{firsts_pay, growth_pays, making_pays, places_pay, pushes_pay}
@@ -50,7 +49,6 @@ fills_pay D at later r t table wanted batch known (a_table catalog name shape be
 pub record StepLaws (D : Type 0) (m : Meaning D) : Type 0 where
   pub writes : PageWritesKeep D FireLinks m
   pub changes : StoreChangesKeep D FireLinks m
-  pub rows : RowsOutKeep D m
   pub drawn : DrawsKeep D FireLinks m
   pub committed : CommitsKeep D FireLinks m
   pub asked : AskingKeeps
@@ -67,9 +65,6 @@ module _ (D : Type 0) (m : Meaning D) (laws : StepLaws D m) (roots : DemandSet) 
   step_keeps first last (puts_batch at store j later r t table batch changed may filled) borne =
       (laws.changes at.store store at.image j batch at.fates at.layout later roots [] changed borne
       (λ wanted all. fills_pay D at later r t table wanted batch (may, all) filled)).borne
-  step_keeps first last (takes_rows at store j later r state live t table keys own tells_ held may stood known) borne =
-      laws.rows at.store store at.image j at.fates at.layout later r roots state live t table keys own tells_ held may stood
-      known borne
   step_keeps first last (draws at old now store j begun r state from sound has) borne =
       laws.drawn old now at.store store at.image j at.fates begun at.layout r roots state from sound has borne
   step_keeps first last (asks_commit at store fates t same cache asks_now) borne =

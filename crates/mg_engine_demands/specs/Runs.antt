@@ -27,20 +27,16 @@ use Rattle.mg_demands.specs.Roots.{roots_of}
 use Rattle.mg_space.specs.Demands.{demands_of, meets_of}
 use Rattle.mg_space.specs.View.{KeepsStore, Tells}
 use Rattle.mg_space.specs.declared.links.FireLinks.{FireLinks}
-use Rattle.mg_snap.specs.Live.{State}
 use Rattle.mg_table_batch.specs.Filling.{FillsTable}
-use Rattle.mg_table_unmaking.specs.Rows.{TakesRowsOut}
 use Rattle.mg_txlist.specs.TxList.{next_said}
 use Rattle.mg_txlist.specs.declared.list.TxList.{TxList}
 use Rattle.mg_ties.specs.DrawTies.{DrawsFrom}
 use Rattle.mg_value.specs.declared.shape.Shape.{Shape}
-use Rattle.mg_value.specs.declared.value.Value.{Value}
 use Rattle.mg_version.specs.declared.cell.Version.{Version}
 use Rattle.mg_demands.specs.PoolTies.{cache_over}
 use Rattle.mg_engine_demands.specs.Bearing.{Fates, asks}
 use Rattle.mg_engine_demands.specs.Fates.{AsksNow, HasCommitted, StoodBefore}
 use Rattle.mg_engine_demands.specs.Numbers.{CommitsIn, HasBegun}
-use Rattle.mg_engine_demands.specs.RowsOut.{RowsAreKnown}
 use Rattle.mg_engine_demands.specs.Stores.{ChangesStore}
 use Rattle.mg_engine_demands.specs.Wanted.{IsPageOf}
 use Rattle.mg_engine_demands.specs.Writes.{StoodOrBegins, WritesInto}
@@ -95,14 +91,6 @@ pub data GoesBy {D : Type 0} (m : Meaning D) : Moment D → Moment D → Type 0 
   puts_batch : (at : Moment D) (store : Pool D FireLinks) (j : Image) (later : Layout) (r : Reading) (t : ℕ)
       (table : Table) (batch : Changed) → ChangesStore m at.store store at.image j batch
       → WritesInto at.store at.image at.fates at.layout r t table → Fills at later t table batch
-      → GoesBy m at (record at { store = store; image = j; layout = later })
-  takes_rows : (at : Moment D) (store : Pool D FireLinks) (j : Image) (later : Layout) (r : Reading) (state : ℕ → TxState)
-      (live : State) (t : ℕ) (table : Table) (keys : List Value)
-      (own : TakesRowsOut m at.store store state live t table keys) (told : Tells m at.store.disk at.image)
-      → m.held store.disk ≡ Some j → WritesInto at.store at.image at.fates at.layout r t table
-      → StoodBefore at.layout later
-      → RowsAreKnown at.store at.image state live t table at.fates at.layout keys nothing_yet own.batch
-      (own.filled at.image told)
       → GoesBy m at (record at { store = store; image = j; layout = later })
   draws : (at : Moment D) (old now : TxList) (store : Pool D FireLinks) (j : Image) (begun : Fates) (r : Reading)
       (state : ℕ → TxState) → DrawsFrom m old now at.store store at.image j

@@ -12,7 +12,6 @@ use Rattle.mg_image.specs.Inventory.{inventory_page}
 use Rattle.mg_image.specs.Records.{Reading}
 use Rattle.mg_image.specs.Tables.{Layout}
 use Rattle.mg_model.specs.Answers.{is_active, is_committed}
-use Rattle.mg_model.specs.Openings.{everyone}
 use Rattle.mg_model.specs.declared.table.Table.{Table}
 use Rattle.mg_overlays.specs.Overlays.{left_by, left_state}
 use Rattle.mg_pool.specs.Batch.{Changed, content_in, lists}
@@ -57,12 +56,16 @@ module _ (fates : Fates) (t : ℕ) (active : fates.state t ≡ Active) (not_aske
     | inr asked ↦ both_ways _ (ap (asks fates) same ∙ never_asks) asked
   ]
 
--- who has committed where all active ones count as in limbo has committed
-pub left_committed : (x : TxState) → left_by true x ≡ Committed → x ≡ Committed
-left_committed Active is = absurd cc
-left_committed Limbo is = absurd cc
-left_committed Dead is = absurd cc
-left_committed Committed is = refl
+-- who has committed, whichever active ones count as in limbo, has committed
+pub left_committed : (chosen : Bool) (x : TxState) → left_by chosen x ≡ Committed → x ≡ Committed
+left_committed true Active is = absurd cc
+left_committed false Active is = absurd cc
+left_committed true Limbo is = absurd cc
+left_committed false Limbo is = absurd cc
+left_committed true Dead is = absurd cc
+left_committed false Dead is = absurd cc
+left_committed true Committed is = refl
+left_committed false Committed is = refl
 
 module _ {D : Type 0} (store : Pool D FireLinks) (image : Image) (fates : Fates) (layout : Layout) (r : Reading)
     (t : ℕ) (table : Table) (wanted : DemandSet) (known : Knows store image fates layout r t table wanted) where
@@ -72,13 +75,13 @@ module _ {D : Type 0} (store : Pool D FireLinks) (image : Image) (fates : Fates)
   abbrev all : WantsAll store.geometry.size (shown store.dirty image) fates layout wanted
   all = known.1
 
-  pub of_sound : SoundAndWanted store.geometry.size (left_state everyone fates.state) (shown store.dirty image) layout r
-      wanted
+  pub of_sound : SoundAndWanted store.geometry.size (left_state known.0.limbo fates.state) (shown store.dirty image)
+      layout r wanted
   of_sound = record { sound = may.sound; wants = all.wants; orderly = all.orderly; tables = all.tables }
 
   pub its_page : (n : ℕ) → IsPageOf layout n table → IsDataOf store.geometry.size wanted n
-  its_page n on = record_wanted store.geometry.size (left_state everyone fates.state) (shown store.dirty image) layout r
-      wanted of_sound n table on
+  its_page n on = record_wanted store.geometry.size (left_state known.0.limbo fates.state) (shown store.dirty image) layout
+      r wanted of_sound n table on
 
   module _ (it : Lasting) (on_disk : DemandSet) (lasting : IsLasting it) (for : LastsFor fates it)
       (has : HasLasting it on_disk wanted) where
@@ -90,8 +93,8 @@ module _ {D : Type 0} (store : Pool D FireLinks) (image : Image) (fates : Fates)
       chained = all.chained;
       header = all.header;
       number = all.numbers t may.active;
-      owns = stand_owns store.geometry.size (left_state everyone fates.state) (shown store.dirty image) layout r may.sound
-          table may.stands;
+      owns = stand_owns store.geometry.size (left_state known.0.limbo fates.state) (shown store.dirty image) layout r
+          may.sound table may.stands;
       root = all.tables table may.stands;
       young = not_settled fates t may.active may.not_asked it for;
       lasting = λ d h is done. has d h (lasting.of_settled d is done);
@@ -136,7 +139,7 @@ pushes_pay D store image fates layout later r t table wanted batch rec v known s
     (for.settled pushes.newest.tx.0 ∙ ap is_committed committed) (λ a c is. is)) (λ other is. inl (stood other is))
   where
     owned : pushes.owner ≡ table.pointer.0
-    owned = pushes.head.owned.is ∙ names_table store.geometry.size (left_state everyone fates.state)
+    owned = pushes.head.owned.is ∙ names_table store.geometry.size (left_state known.0.limbo fates.state)
         (shown store.dirty image) layout r known.0.sound rec.page.0 table on
 
     knows : KnowsTable store image nothing_yet pushes.owner t it.settled on_disk wanted

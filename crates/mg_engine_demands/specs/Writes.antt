@@ -1,5 +1,5 @@
 -- The batches of a transaction that writes records: what an engine knows then, and that each pays.
-use Rattle.std.specs.Prelude.{◌≡◌, ◌⊎◌, ℕ, false, List, [], None}
+use Rattle.std.specs.Prelude.{◌≡◌, ◌⊎◌, Bool, ℕ, false, List, [], None}
 use Rattle.mg_base.specs.Image.{Image}
 use Rattle.mg_base.specs.declared.numbers.PageNo.{PageNo}
 use Rattle.mg_base.specs.declared.numbers.RecId.{RecId}
@@ -12,7 +12,6 @@ use Rattle.mg_image.specs.Records.{Reading, cells_of}
 use Rattle.mg_image.specs.Sound.{IsSoundBy}
 use Rattle.mg_image.specs.Tables.{Layout}
 use Rattle.mg_model.specs.Answers.{is_committed}
-use Rattle.mg_model.specs.Openings.{everyone}
 use Rattle.mg_model.specs.declared.table.Table.{Table}
 use Rattle.mg_overlays.specs.Overlays.{left_state}
 use Rattle.mg_pool.specs.Batch.{Changed}
@@ -31,11 +30,13 @@ use Rattle.mg_engine_demands.specs.Stores.{BatchPays, WantsAll}
 use Rattle.mg_engine_demands.specs.Wanted.{IsPageOf}
 
 -- An active transaction, which has not asked for its commit, writes into a table that stands on the pages; these are a
--- sound image, where all active ones count as in limbo.
+-- sound image by some choice which of the active ones count as in limbo: all of them, or all but the one that takes back
+-- the rows of the catalog of a table, between two of them.
 pub record WritesInto {D L : Type 0} (store : Pool D L) (image : Image) (fates : Fates) (layout : Layout) (r : Reading)
     (t : ℕ) (table : Table) : Type 0 where
   pub lawful : IsGeometry store.geometry
-  pub sound : IsSoundBy packed_form store.geometry.size (left_state everyone fates.state) (shown store.dirty image) layout r
+  pub limbo : ℕ → Bool
+  pub sound : IsSoundBy packed_form store.geometry.size (left_state limbo fates.state) (shown store.dirty image) layout r
   pub active : fates.state t ≡ Active
   pub not_asked : fates.asked t ≡ false
   pub stands : IsTableOf layout table

@@ -15,7 +15,6 @@
 //! | a record is written | `TakesPlace`, `MakesFirst`, `PushesOver`, .. | `PlacesPay`, `FirstsPay`, `PushesPay`, .. | `Writes` |
 //! | a row is written | `Lays` of mg_row_writes | `LaysGo`, as steps | `Laying` |
 //! | a table is made | `GetsWanted`, `MakesAtOnce` of mg_table_batch | `GrowthsGo`, `MakingsGo`, as steps | `Making` |
-//! | rows are taken out together | `TakesRowsOut` of mg_table_unmaking | `RowsOutKeep` | `RowsOut` |
 //! | a number is drawn | `DrawsFrom` of mg_ties | `DrawsKeep` | `Numbers` |
 //! | a commit is asked for | `MarksAll` of mg_pool | `AskingKeeps` | `Fates` |
 //! | it is made | `CommitsBits` of mg_txlist | `CommitsKeep` | `Numbers` |
@@ -60,4 +59,4 @@ mod stores;
 pub use calls::{calls_go, engines_stay_linked, tables_are_made};
 pub use laws::{caches_keep, fates_keep, openings_bear, records_are_wanted};
 pub use runs::{rows_go, runs_stay_linked, tables_go};
-pub use stores::{numbers_keep, stores_keep, takings_keep, writes_pay};
+pub use stores::{numbers_keep, stores_keep, writes_pay};

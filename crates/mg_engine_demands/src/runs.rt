@@ -5,7 +5,7 @@ ghost use Rattle.mg_engine_demands.specs.Making.{GrowthsGo, MakingsGo};
 ghost use Rattle.mg_engine_demands.specs.Runs.{RunsStayLinked};
 
 use crate::laws::{caches_keep, fates_keep, openings_bear};
-use crate::stores::{numbers_keep, stores_keep, takings_keep};
+use crate::stores::{numbers_keep, stores_keep};
 use mg_base::Disk;
 
 /// An engine that was opened over a sound image: whatever steps its calls have taken, each image that a crash may
@@ -17,7 +17,6 @@ pub fn runs_stay_linked<D: Disk>()
     fates_keep();
     openings_bear();
     stores_keep::<D>();
-    takings_keep::<D>();
     numbers_keep::<D>()
 }
 

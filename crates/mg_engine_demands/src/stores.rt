@@ -1,13 +1,12 @@
 //! An engine's store: its batches, and its page writes.
 
 ghost use Rattle.mg_engine_demands.specs.Numbers.{CommitsKeep, DrawsKeep};
-ghost use Rattle.mg_engine_demands.specs.RowsOut.{RowsOutKeep, TakingAwayKeeps};
 ghost use Rattle.mg_engine_demands.specs.Stores.{PageWritesKeep, ReadsKeep, StoreChangesKeep};
 ghost use Rattle.mg_engine_demands.specs.Writes.{FirstsPay, GrowthPays, MakingPays, PlacesPay, PushesPay, ReplacementsPay, TakingOutPays};
 
 use crate::laws::caches_keep;
 use mg_base::Disk;
-use mg_demands::{all_is_borne, commits_settle, runs_bear, steps_bear};
+use mg_demands::commits_settle;
 use mg_space::FireLinks;
 
 /// A store's cache bears its demands after pages were read, or written, and after a batch that pays.
@@ -29,16 +28,6 @@ pub fn writes_pay<D: Disk>()
     ensures growth { GrowthPays D }
     ensures making { MakingPays D }
 {}
-
-/// A store's cache bears its demands after rows were taken out in one batch.
-pub fn takings_keep<D: Disk>()
-    ensures away { TakingAwayKeeps }
-    ensures rows { RowsOutKeep D D.meaning }
-{
-    all_is_borne::<FireLinks>();
-    runs_bear();
-    steps_bear()
-}
 
 /// A store's cache bears its demands after a number was drawn, and after a commit.
 pub fn numbers_keep<D: Disk>()

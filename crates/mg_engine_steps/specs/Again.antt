@@ -6,7 +6,6 @@ use Rattle.mg_image.specs.Histories.{newest_at, row_change}
 use Rattle.mg_image_overlays.specs.CommitLaws.{LeavesOthers}
 use Rattle.mg_lasting.specs.Entries.{leaves_others}
 use Rattle.mg_model.specs.Answers.{catalog_of, told}
-use Rattle.mg_model.specs.Catalog.{catalog_name}
 use Rattle.mg_model.specs.Changes.{Cells, is_at, row_at, same_key, same_name}
 use Rattle.mg_model.specs.DeedLaws.{deeds_after, deeds_after_entry}
 use Rattle.mg_model.specs.Effects.{commits, deeds_left, doer, is_its}
@@ -52,11 +51,6 @@ abbrev pub without_key : List ℕ → Value → List Change → List Change
 without_key name key [] = []
 without_key name key (c ∷ cs) =
     if is_at c name key then without_key name key cs else c ∷ without_key name key cs
-
--- the changes that are not of these rows of the catalog
-abbrev pub without_rows : List Value → List Change → List Change
-without_rows [] cs = cs
-without_rows (k ∷ keys) cs = without_rows keys (without_key catalog_name k cs)
 
 -- these changes over those that are left are all that the transaction has made
 abbrev pub AreTaken : Opening → Entries → Entry → ℕ → List Change → Type 0

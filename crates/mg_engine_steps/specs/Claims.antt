@@ -55,14 +55,15 @@ every_as form size o h g state asked session store image same every chosen set_ 
     kept_as form size o h g (left_state chosen state) (cache_over store image).pool
     (overlay (cache_over store image) set_) (same chosen) (every chosen set_ closed has)
 
+-- who is dead is so whether he is chosen or not
+pub left_dead : (c : Bool) → left_by c Dead ≡ Dead
+left_dead true = refl
+left_dead false = refl
+
 -- where one transaction is dead, it is as if nobody had chosen it: then its changes do not count
 module _ (t : ℕ) (state now : ℕ → TxState) (dead : now t ≡ Dead) (others : (u : ℕ) → u ≢ t → now u ≡ state u)
     (was : state t ≡ Active) where
-  left_dead : (c : Bool) → left_by c Dead ≡ Dead
-  left_dead true = refl
-  left_dead false = refl
-
-  left_same : (chosen : ℕ → Bool) (u : ℕ)
+  pub left_same : (chosen : ℕ → Bool) (u : ℕ)
       → left_state (without t chosen) state u ≡ left_state chosen now u
   left_same chosen u = at (cases_eq u t)
     where

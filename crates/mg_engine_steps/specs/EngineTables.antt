@@ -20,10 +20,10 @@ use Rattle.mg_model.specs.declared.table.Table.{Table}
 use Rattle.mg_pool.specs.Pool.{IsPool, shown}
 use Rattle.mg_pool.specs.declared.pool.Pool.{Pool}
 use Rattle.mg_pool_overlays.specs.Needs.{Asked, Sessions}
-use Rattle.mg_engine_steps.specs.TablesBack.{AreRowsLeft, TakesEachTable}
+use Rattle.mg_engine_steps.specs.TablesBack.{AreRowsLeft, TakesEachRow}
 
--- Once the rows of all its tables are taken out, those of each table in a batch of their own, the engine stands for the history
--- with the entry.
+-- Once the rows of all its tables are taken out, each in a batch of its own, the engine stands for the history with the
+-- entry.
 abbrev pub EnginesTakeTables : (D L : Type 0) → Meaning D → Type 0
 EnginesTakeTables D L m = (o : Opening) (h : Entries) (e : Entry) (point : Point) (s new : Standing)
     (start before after : Pool D L) (k i j : Image) (asked : Asked) (session : Sessions) (t : ℕ)
@@ -35,6 +35,6 @@ EnginesTakeTables D L m = (o : Opening) (h : Entries) (e : Entry) (point : Point
     → IsMidway m packed_form before.geometry.size o h e t left s start before i asked session
     → ShowsMidway packed_form before.geometry.size o h e t whole left s (shown start.dirty k) stands.shows
     (shown before.dirty i)
-    → TakesEachTable m s t keys before after i j → IsPool m after → m.held after.disk ≡ Some j
+    → TakesEachRow m s t keys before after i j → IsPool m after → m.held after.disk ≡ Some j
     → after.geometry.size ≡ before.geometry.size
     → HasGoneOn m packed_form before.geometry.size o h e new start after j asked session

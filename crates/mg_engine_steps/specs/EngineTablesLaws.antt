@@ -24,7 +24,7 @@ use Rattle.mg_pool.specs.Pool.{IsPool, shown}
 use Rattle.mg_pool.specs.declared.pool.Pool.{Pool}
 use Rattle.mg_pool_overlays.specs.Needs.{Asked, Sessions}
 use Rattle.mg_engine_steps.specs.EngineTables.{EnginesTakeTables}
-use Rattle.mg_engine_steps.specs.TablesBack.{AreRowsLeft, TablesGoBack, TakesEachTable}
+use Rattle.mg_engine_steps.specs.TablesBack.{AreRowsLeft, TablesGoBack, TakesEachRow}
 
 module _ (D L : Type 0) (m : Meaning D) (begins : OpeningsBegin) (on : StandsOn packed_form)
     (ends : MidwaysEnd packed_form D L m) (go_back : TablesGoBack D L m) (o : Opening)
@@ -37,7 +37,7 @@ module _ (D L : Type 0) (m : Meaning D) (begins : OpeningsBegin) (on : StandsOn 
     (fewer : (name : List ℕ) (table : Table) → new.table t name ≡ Some table → s.table t name ≡ Some table)
     (midway : IsMidway m packed_form before.geometry.size o h e t left s start before i asked session)
     (shows : ShowsMidway packed_form before.geometry.size o h e t whole left s (shown start.dirty k) stands.shows
-    (shown before.dirty i)) (takes : TakesEachTable m s t keys before after i j) (is_pool : IsPool m after)
+    (shown before.dirty i)) (takes : TakesEachRow m s t keys before after i j) (is_pool : IsPool m after)
     (held : m.held after.disk ≡ Some j) (same_size : after.geometry.size ≡ before.geometry.size) where
   gone : IsMidway m packed_form before.geometry.size o h e t [] s start after j asked session
       × ((new : Standing) → FollowsEntry o h e s new → new.number t ≡ s.number t

@@ -22,7 +22,7 @@ use Rattle.std.proofs.Common.{Bool, List, ap, if◌then◌else◌, refl, subst, 
 use Rattle.std.proofs.Math.Path.{fun_ext}
 
 pub midways_are_given_up : (form : Form) (D L : Type 0) (m : Meaning D) → MidwaysAreGivenUp form D L m
-midways_are_given_up form D L m o h e refused s start pool i has_asked session t left idle passing no_failure midway = (
+midways_are_given_up form D L m o h refused start pool has_asked session t idle passing no_failure midway = (
   record {
     image = midway.lasts.image;
     held = midway.lasts.held;

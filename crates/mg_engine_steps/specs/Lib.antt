@@ -20,6 +20,7 @@ pub mod Claims
 pub mod CommitLaws
 pub mod Commits
 pub mod DeadLaws
+pub mod DeadMidway
 pub mod DeadRows
 pub mod DeadRowsLaws
 pub mod DrawnLists
@@ -77,7 +78,6 @@ pub mod ReadsMoved
 pub mod ReadsOwn
 pub mod Rows
 pub mod RowsLaws
-pub mod RowsLeft
 pub mod RowsTaken
 pub mod RowsTakenLaws
 pub mod SameRecords

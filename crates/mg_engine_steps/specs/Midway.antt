@@ -49,6 +49,14 @@ pub record IsMidway {D L : Type 0} (m : Meaning D) (form : Form) (size : ℕ) (o
   pub lasts : LastsOn m form o (rolling t ∷ h) pool asked session
   pub leaves : LeavesSince m start.disk pool.disk (HoldsAcknowledged form size o h)
 
+-- Whatever has come of its pages, the cache lasts with the history in which the transaction is rolled back, and a crash
+-- leaves what the history before has: with it dead every overlay is what it has to be. So it is between the rows of a
+-- table, where no overlay is that counts the transaction as in limbo.
+pub record LastsDead {D L : Type 0} (m : Meaning D) (form : Form) (size : ℕ) (o : Opening) (h : Entries) (t : ℕ)
+    (start pool : Pool D L) (asked : Asked) (session : Sessions) : Type 0 where
+  pub lasts : LastsOn m form o (rolling t ∷ h) pool asked session
+  pub leaves : LeavesSince m start.disk pool.disk (HoldsAcknowledged form size o h)
+
 -- A transaction that is active, and has not asked for its commit, takes back; the entry is idle to all but its
 -- own changes.
 pub record GoesBack (o : Opening) (h : Entries) (e : Entry) (point : Point) (s : Standing) (asked : Asked) (t : ℕ)
@@ -149,9 +157,8 @@ EnginesGoBack form D L m = (o : Opening) (h : Entries) (e : Entry) (point : Poin
 -- The event was refused in the middle, and the transaction is rolled back: the cache lasts with the history that
 -- has the refused event and the rollback.
 abbrev pub MidwaysAreGivenUp : Form → (D L : Type 0) → Meaning D → Type 0
-MidwaysAreGivenUp form D L m = (o : Opening) (h : Entries) (e refused : Entry) (s : Standing)
-    (start pool : Pool D L) (i : Image) (asked : Asked) (session : Sessions) (t : ℕ) (left : List Change)
-    → is_idle (effect_of refused) ≡ true → is_durable refused ≡ false → may_last refused ≡ false
-    → IsMidway m form pool.geometry.size o h e t left s start pool i asked session
+MidwaysAreGivenUp form D L m = (o : Opening) (h : Entries) (refused : Entry) (start pool : Pool D L) (asked : Asked)
+    (session : Sessions) (t : ℕ) → is_idle (effect_of refused) ≡ true → is_durable refused ≡ false
+    → may_last refused ≡ false → LastsDead m form pool.geometry.size o h t start pool asked session
     → LastsOn m form o (rolling t ∷ refused ∷ h) pool asked session
     × LeavesSince m start.disk pool.disk (HoldsAcknowledged form pool.geometry.size o h)

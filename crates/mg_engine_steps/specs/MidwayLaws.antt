@@ -6,7 +6,7 @@ use Rattle.mg_base.specs.declared.transaction.TxState.{TxState}
 use Rattle.mg_base.specs.declared.transaction.TxState.TheVariants.{Active, Dead}
 use Rattle.mg_engine_steps.specs.Again.{again, leaves_by, others_again, own_again, rolling, rows_again}
 use Rattle.mg_engine_steps.specs.Claims.{dead_every, every_as}
-use Rattle.mg_engine_steps.specs.Midway.{GoesBack, IsMidway, MidwaysBegin, MidwaysEnd}
+use Rattle.mg_engine_steps.specs.Midway.{GoesBack, IsMidway, LastsDead, MidwaysBegin, MidwaysEnd}
 use Rattle.mg_engine_steps.specs.Idle.{RollbackLastsOn}
 use Rattle.mg_engine_steps.specs.Batches.{RowsLastStill}
 use Rattle.mg_engine_steps.specs.Caches.{kept_from}
@@ -54,10 +54,10 @@ holds_back form size o h t c holds = record {
 
 module _ (o : Opening) (h : Entries) (e : Entry) (point : Point) (s : Standing) (has_asked : Asked) (t : ℕ)
     (memory : Remembers o h s) (goes : GoesBack o h e point s has_asked t) where
-  dead : state_of o (rolling t ∷ h) t ≡ Dead
+  pub dead : state_of o (rolling t ∷ h) t ≡ Dead
   dead = rw (eq-eqb t t refl) refl
 
-  others : (u : ℕ) → u ≢ t → state_of o (rolling t ∷ h) u ≡ s.state u
+  pub others : (u : ℕ) → u ≢ t → state_of o (rolling t ∷ h) u ≡ s.state u
   others u ne = rw (ne_eqb t u (λ same. ne (sym same))) (sym (memory.state u))
 
   pub leaves_back : LeavesOthers o h e t
@@ -110,7 +110,54 @@ midways_begin form D L m rolls o h e point s pool i has_asked session t left sta
 
 -- ---- after a batch
 
--- a batch leaves the bits, and every overlay is kept with the changes that are not taken back yet
+pub lasts_of : {D L : Type 0} (m : Meaning D) (form : Form) (size : ℕ) (o : Opening) (h : Entries) (e : Entry) (t : ℕ)
+    (left : List Change) (s : Standing) (start pool : Pool D L) (i : Image) (has_asked : Asked) (session : Sessions)
+    → IsMidway m form size o h e t left s start pool i has_asked session
+    → LastsDead m form size o h t start pool has_asked session
+lasts_of m form size o h e t left s start pool i has_asked session midway =
+    record { lasts = midway.lasts; leaves = midway.leaves }
+
+-- a batch leaves the bits, and every overlay is kept with the transaction dead
+module _ {D L : Type 0} (m : Meaning D) (form : Form) (begun : RowsLastStill D L m form) (o : Opening)
+    (h : Entries) (start before after : Pool D L) (i j : Image) (batch : Changed) (has_asked : Asked)
+    (session : Sessions) (t : ℕ) (opening : MayBegin o) (legal : IsLegal o (rolling t ∷ h))
+    (midway : LastsDead m form before.geometry.size o h t start before has_asked session)
+    (was : WasChanged m before after i j batch)
+    (bits : KeepsBits before.geometry.size (shown before.dirty i) (shown after.dirty j))
+    (kept : KeptIn form before.geometry.size o (rolling t ∷ h) (state_of o (rolling t ∷ h)) has_asked session after j)
+  where
+    abbrev size : ℕ
+    size = before.geometry.size
+
+    both : LastsOn m form o (rolling t ∷ h) after has_asked session
+        × LeavesSince m before.disk after.disk (HoldsAcknowledged form before.dirty.size o (rolling t ∷ h))
+    both = begun o (rolling t ∷ h) before after i j batch has_asked session opening legal midway.lasts
+        (record {
+          pool = was.pool;
+          changes = was.changes;
+          crash = was.crash;
+          tells = was.tells;
+          bits = bits;
+          kept = kept;
+        })
+
+    as_was : (c : Image) → HoldsAcknowledged form before.dirty.size o (rolling t ∷ h) c
+        → HoldsAcknowledged form size o h c
+    as_was c holds = subst (λ (n : ℕ). HoldsAcknowledged form n o h c) was.pool.page_size
+        (holds_back form before.dirty.size o h t c holds)
+
+    pub lasts_on : LastsDead m form before.geometry.size o h t start after has_asked session
+    lasts_on = record {
+      lasts = both.0;
+      leaves = record {
+        since = joined m start.disk before.disk after.disk (HoldsAcknowledged form size o h) midway.leaves.since
+            (leaves_as m before.disk after.disk (HoldsAcknowledged form before.dirty.size o (rolling t ∷ h))
+            (HoldsAcknowledged form size o h) as_was both.1.since);
+        left = λ c may. as_was c (both.1.left c may);
+      };
+    }
+
+-- and with the changes that are not taken back yet
 module _ {D L : Type 0} (m : Meaning D) (form : Form) (begun : RowsLastStill D L m form) (o : Opening)
     (h : Entries) (e : Entry) (point : Point) (s : Standing) (start before after : Pool D L) (i j : Image)
     (batch : Changed) (has_asked : Asked) (session : Sessions) (t : ℕ) (cs left : List Change)
@@ -120,37 +167,13 @@ module _ {D L : Type 0} (m : Meaning D) (form : Form) (begun : RowsLastStill D L
     (was : WasChanged m before after i j batch)
     (bits : KeepsBits before.geometry.size (shown before.dirty i) (shown after.dirty j))
     (kept : KeptIn form before.geometry.size o (again t left (e ∷ h)) s.state has_asked session after j) where
-  abbrev size : ℕ
-  size = before.geometry.size
+  then_ : LastsDead m form before.geometry.size o h t start after has_asked session
+  then_ = lasts_on m form begun o h start before after i j batch has_asked session t opening (goes.ends, legal)
+      (lasts_of m form before.geometry.size o h e t cs s start before i has_asked session midway) was bits
+      (dead_kept o h e point s has_asked t memory goes form before.geometry.size after j session left kept)
 
-  both : LastsOn m form o (rolling t ∷ h) after has_asked session
-      × LeavesSince m before.disk after.disk (HoldsAcknowledged form before.dirty.size o (rolling t ∷ h))
-  both = begun o (rolling t ∷ h) before after i j batch has_asked session opening (goes.ends, legal) midway.lasts
-      (record {
-        pool = was.pool;
-        changes = was.changes;
-        crash = was.crash;
-        tells = was.tells;
-        bits = bits;
-        kept = dead_kept o h e point s has_asked t memory goes form size after j session left kept;
-      })
-
-  as_was : (c : Image) → HoldsAcknowledged form before.dirty.size o (rolling t ∷ h) c
-      → HoldsAcknowledged form size o h c
-  as_was c holds = subst (λ (n : ℕ). HoldsAcknowledged form n o h c) was.pool.page_size
-      (holds_back form before.dirty.size o h t c holds)
-
-  pub midway_on : IsMidway m form size o h e t left s start after j has_asked session
-  midway_on = record {
-    kept = kept;
-    lasts = both.0;
-    leaves = record {
-      since = joined m start.disk before.disk after.disk (HoldsAcknowledged form size o h) midway.leaves.since
-          (leaves_as m before.disk after.disk (HoldsAcknowledged form before.dirty.size o (rolling t ∷ h))
-          (HoldsAcknowledged form size o h) as_was both.1.since);
-      left = λ c may. as_was c (both.1.left c may);
-    };
-  }
+  pub midway_on : IsMidway m form before.geometry.size o h e t left s start after j has_asked session
+  midway_on = record { kept = kept; lasts = then_.lasts; leaves = then_.leaves }
 
 -- ---- the end
 

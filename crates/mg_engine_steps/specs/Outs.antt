@@ -1,10 +1,10 @@
--- Several records are taken out in one batch, and the tables that they say go.
+-- Rows are taken out of the catalog, each in a batch of its own, and the tables that they say go.
 use Rattle.std.specs.Prelude.{◌≡◌, ◌⊎◌, ◌||◌, ℕ, Bool, true, false, List, [], ◌∷◌, None, Some}
 use Rattle.mg_base.specs.Disk.{Meaning}
 use Rattle.mg_base.specs.Image.{Image}
 use Rattle.mg_base.specs.declared.numbers.RecId.{RecId}
 use Rattle.mg_base.specs.declared.transaction.TxState.{TxState}
-use Rattle.mg_base.specs.declared.transaction.TxState.TheVariants.{Active}
+use Rattle.mg_base.specs.declared.transaction.TxState.TheVariants.{Active, Dead}
 use Rattle.mg_value.specs.declared.value.Value.{Value}
 use Rattle.mg_chain.specs.Writing.{TakesOut}
 use Rattle.mg_model.specs.declared.opening.Opening.{Opening}
@@ -19,45 +19,42 @@ use Rattle.mg_image.specs.Records.{Reading, record_key, writer}
 use Rattle.mg_image.specs.Sound.{IsSoundBy, facts_by}
 use Rattle.mg_image.specs.Tables.{Layout, has, stands_of, table_at}
 use Rattle.mg_image_overlays.specs.KeptImages.{IsKept}
-use Rattle.mg_overlays.specs.Overlays.{left_state, without}
+use Rattle.mg_overlays.specs.Overlays.{OthersStay, left_state, without}
 use Rattle.mg_pool.specs.Batch.{Changed}
 use Rattle.mg_pool.specs.Pool.{shown}
 use Rattle.mg_pool.specs.declared.pool.Pool.{Pool}
 use Rattle.mg_pool_overlays.specs.Needs.{Asked, Sessions}
-use Rattle.mg_space.specs.View.{viewed}
 use Rattle.mg_ties.specs.Changed.{ChangesFresh, KeptIn, fresh}
 use Rattle.mg_engine_steps.specs.CatalogPages.{ChangesCatalogPages}
-use Rattle.mg_engine_steps.specs.Taken.{IsWithout, LeavesTables, TakesRows}
+use Rattle.mg_engine_steps.specs.Taken.{LeavesTables, TakesRows}
 use Rattle.mg_engine_steps.specs.Whole.{GoWhole}
 
--- One record after another is taken out in a batch, each of which had a transaction's version; whichever choice is made
--- without it, the record is of a table of the pages as the batch has them.
-pub data TakesRecordsOut (form : Form) {D L : Type 0} (store : Pool D L) (image : Image) (state : ℕ → TxState) (by : ℕ)
-    : Changed → Changed → Type 0 where
-  none_out : (b : Changed) → TakesRecordsOut form store image state by b b
-  takes : (old mid new : Changed) (rec : RecId) (table : Table) (out : TakesOut store image old mid rec)
-      → out.was.tx.0 ≡ by
-      → ((chosen : ℕ → Bool) → chosen by ≡ false → (layout : Layout) (r : Reading)
-      → IsSoundBy form store.geometry.size (left_state chosen state) (viewed store image old) layout r
-      → table_at (stands_of layout) rec.page.0 ≡ Some table)
-      → TakesRecordsOut form store image state by mid new → TakesRecordsOut form store image state by old new
+-- A row of the catalog is taken out in a batch of its own, under a key: its record had one version, which was a
+-- transaction's; whichever choice is made without that, the record is one of the catalog, and has the key.
+pub record TakesRowAway (form : Form) {D L : Type 0} (store : Pool D L) (image : Image) (state : ℕ → TxState) (by : ℕ)
+    (key : Value) (batch : Changed) : Type 0 where
+  pub rec : RecId
+  pub table : Table
+  pub out : TakesOut store image fresh batch rec
+  pub its : out.was.tx.0 ≡ by
+  pub first : out.was.back ≡ None
+  pub catalog : table.name ≡ catalog_name
+  pub placed : (chosen : ℕ → Bool) → chosen by ≡ false → (layout : Layout) (r : Reading)
+      → IsSoundBy form store.geometry.size (left_state chosen state) (shown store.dirty image) layout r
+      → table_at (stands_of layout) rec.page.0 ≡ Some table
+  pub keyed : (chosen : ℕ → Bool) → chosen by ≡ false → (layout : Layout) (r : Reading)
+      → IsSoundBy form store.geometry.size (left_state chosen state) (shown store.dirty image) layout r
+      → record_key table (r rec) ≡ key
 
--- Rows of the catalog are taken out in one batch by an active transaction that has not asked for its commit, with whole
--- tables that it has made: every overlay is kept, for the history without them.
-abbrev pub TakenTablesKeep : Form → (D L : Type 0) → Meaning D → Type 0
-TakenTablesKeep form D L m = (before after : Pool D L) (i j : Image) (batch : Changed) (asked : Asked)
-    (session : Sessions) (o : Opening) (h later : Entries) (by : ℕ) (state : ℕ → TxState) (gone : Value → Bool)
-    → ChangesFresh m before after i j batch → TakesRecordsOut form before i state by fresh batch
-    → state by ≡ Active → asked by ≡ false → IsWithout o h later by gone
-    -- what has gone, where the transaction counts as in limbo
-    → ((chosen : ℕ → Bool) → chosen by ≡ true
-    → (was : IsKept form before.geometry.size o h (left_state chosen state) (shown before.dirty i)
-    (shown before.dirty i)) → (c : Layout) (rc : Reading)
-    → IsSoundBy form before.geometry.size (left_state (without by chosen) state) (viewed before i batch) c rc
-    → LeavesTables before.geometry.size (shown before.dirty i) (viewed before i batch) was.layout c
-    × TakesRows by was.layout (facts_by (left_state chosen state) (shown before.dirty i) was.layout) was.reading rc gone)
-    → KeptIn form before.geometry.size o h state asked session before i
-    → KeptIn form before.geometry.size o later state asked session after j
+-- So every overlay in which the transaction counts as dead stays what it has to be. `now` is what becomes of transactions
+-- once it is.
+abbrev pub RowAwayKeeps : Form → (D L : Type 0) → Meaning D → Type 0
+RowAwayKeeps form D L m = (before after : Pool D L) (i j : Image) (batch : Changed) (asked : Asked) (session : Sessions)
+    (o : Opening) (h : Entries) (by : ℕ) (state now : ℕ → TxState) (key : Value)
+    → ChangesFresh m before after i j batch → TakesRowAway form before i state by key batch → state by ≡ Active
+    → now by ≡ Dead → OthersStay state now by
+    → KeptIn form before.geometry.size o h now asked session before i
+    → KeptIn form before.geometry.size o h now asked session after j
 
 -- ---- what is read
 
@@ -72,49 +69,12 @@ pub record GoesWhole (by : ℕ) (was now : List Entry) : Type 0 where
 abbrev pub GoOrStay : ℕ → Reading → Reading → Type 0
 GoOrStay by r s = (p : RecId) → (s p ≡ r p) ⊎ GoesWhole by (r p) (s p)
 
--- each version that is taken out is the first of its record
-abbrev pub AreFirst : (form : Form) {D L : Type 0} (store : Pool D L) (image : Image) (state : ℕ → TxState) (by : ℕ)
-    (old new : Changed) → TakesRecordsOut form store image state by old new → Type 0
-AreFirst form store image state by old new (none_out b) = Unit {0}
-AreFirst form store image state by old new (takes a mid c rec table out its placed more) =
-    (out.was.back ≡ None) × AreFirst form store image state by mid c more
-
--- so with the maker dead the pages have the layout that they had, and of each record what it had, or it has gone
-abbrev pub OutsAreRead : Form → (D L : Type 0) → Type 0
-OutsAreRead form D L = (store : Pool D L) (image : Image) (o : Opening) (h : Entries) (state : ℕ → TxState) (by : ℕ)
-    (chosen : ℕ → Bool) (batch : Changed) (outs : TakesRecordsOut form store image state by fresh batch)
-    → state by ≡ Active → chosen by ≡ false → AreFirst form store image state by fresh batch outs
-    → (start : IsKept form store.geometry.size o h (left_state chosen state) (shown store.dirty image)
-    (shown store.dirty image))
-    → (c : Layout) (rc : Reading)
-    → IsSoundBy form store.geometry.size (left_state chosen state) (viewed store image batch) c rc
-    → (c ≡ start.of_pool) × GoOrStay by start.in_pool rc
-
 -- ---- rows of the catalog
 
 -- one of these keys is this one
 abbrev pub is_among : List Value → Value → Bool
 is_among [] key = false
 is_among (k ∷ keys) key = same_key k key || is_among keys key
-
--- A record that is taken out is one of the catalog with a key, and had one version.
-pub record IsRowOut (form : Form) {D L : Type 0} (store : Pool D L) (image : Image) (state : ℕ → TxState) (by : ℕ)
-    (old mid : Changed) (rec : RecId) (table : Table) (out : TakesOut store image old mid rec) (key : Value) : Type 0
-  where
-    pub catalog : table.name ≡ catalog_name
-    pub first : out.was.back ≡ None
-    pub keyed : (chosen : ℕ → Bool) → chosen by ≡ false → (layout : Layout) (r : Reading)
-        → IsSoundBy form store.geometry.size (left_state chosen state) (viewed store image old) layout r
-        → record_key table (r rec) ≡ key
-
--- the records that are taken out are those of these keys, in turn
-abbrev pub AreRowsOut : (form : Form) {D L : Type 0} (store : Pool D L) (image : Image) (state : ℕ → TxState) (by : ℕ)
-    (old new : Changed) → TakesRecordsOut form store image state by old new → List Value → Type 0
-AreRowsOut form store image state by old new (none_out b) [] = Unit {0}
-AreRowsOut form store image state by old new (none_out b) (key ∷ keys) = ⊥
-AreRowsOut form store image state by old new (takes a mid c rec table out its placed more) [] = ⊥
-AreRowsOut form store image state by old new (takes a mid c rec table out its placed more) (key ∷ keys) =
-    IsRowOut form store image state by a mid rec table out key × AreRowsOut form store image state by mid c more keys
 
 -- ---- what is read, with the writer dead
 
@@ -134,7 +94,7 @@ RowsGone form size o h state by keys old new = (chosen : ℕ → Bool) → chose
     → (start.of_pool ≡ c) × ReadsWithout by keys start.of_pool start.in_pool rc
     × ChangesCatalogPages size old new start.of_pool
 
--- So the pages leave and take what the law of a batch wants, where whole tables go.
+-- So the pages leave and take what the law of pages without tables wants, where whole tables go.
 abbrev pub OutsThere : Form → (D L : Type 0) → Type 0
 OutsThere form D L = (store : Pool D L) (image : Image) (o : Opening) (h : Entries) (state : ℕ → TxState) (by : ℕ)
     (keys : List Value) (new : Pages) (asked : Asked) (session : Sessions) → state by ≡ Active

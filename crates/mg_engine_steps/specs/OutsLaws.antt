@@ -1,13 +1,14 @@
--- A batch that takes records out, on an image in which their writer counts as dead: what an image has to be that has a
--- set of the batch's pages is kept, record by record.
+-- A batch that takes a record out, on an image in which its writer counts as dead: what an image has to be that has a
+-- set of the batch's pages is kept.
 use Rattle.std.proofs.Common.{◌≡◌, ◌≢◌, ◌⊎◌, inl, inr, refl, sym, ap, ◌∙◌, subst, arith, ◌++◌, ℕ, Bool, true, false, List, [], ◌∷◌, Option, None, Some}
-use Rattle.std.proofs.lemmas.Bool.{cases_eq}
+use Rattle.std.proofs.Math.Path.{fun_ext}
+use Rattle.std.proofs.lemmas.Bool.{cases_eq, eq-eqb}
 use Rattle.mg_base.specs.Disk.{Meaning}
 use Rattle.mg_base.specs.Fields.{byte}
 use Rattle.mg_base.specs.Image.{Image}
 use Rattle.mg_base.specs.declared.numbers.RecId.{RecId}
 use Rattle.mg_base.specs.declared.transaction.TxState.{TxState}
-use Rattle.mg_base.specs.declared.transaction.TxState.TheVariants.{Committed, Dead, Limbo}
+use Rattle.mg_base.specs.declared.transaction.TxState.TheVariants.{Committed, Dead}
 use Rattle.mg_careful.specs.CarefulWrite.{PageSet}
 use Rattle.mg_careful.specs.Precedence.{Orders}
 use Rattle.mg_careful.specs.declared.graph.Order.{Order}
@@ -37,15 +38,14 @@ use Rattle.mg_model.specs.Catalog.{catalog_name}
 use Rattle.mg_model.specs.History.{Entries}
 use Rattle.mg_model.specs.declared.opening.Opening.{Opening}
 use Rattle.mg_model.specs.declared.table.Table.{Table}
-use Rattle.mg_overlays.specs.BatchLaws.{change_keeps_raised}
-use Rattle.mg_overlays.specs.Overlays.{LaysBatch, laid, left_state, without}
+use Rattle.mg_overlays.specs.BatchLaws.{change_keeps_always}
+use Rattle.mg_overlays.specs.Overlays.{LaysBatch, laid, left_by, left_state, without}
 use Rattle.mg_overlays.specs.Views.{first_view, last_view, ordered_same, partly}
-use Rattle.mg_image_overlays.specs.Creating.{without_raises}
 use Rattle.mg_pool.specs.Batch.{Changed, content_in, lists}
 use Rattle.mg_pool.specs.Pool.{shown}
 use Rattle.mg_pool.specs.declared.pool.Pool.{Pool}
 use Rattle.mg_space.specs.View.{viewed}
-use Rattle.mg_ties.specs.Changed.{BatchIsChanged, cache_over, changed_fresh, fresh, needs_all, needs_in}
+use Rattle.mg_ties.specs.Changed.{BatchIsChanged, cache_over, changed_fresh, fresh, needs_in}
 use Rattle.mg_image_overlays.specs.BackPart.{OrdersTakeOut, TakesOutPages, take_out_views}
 use Rattle.mg_image_overlays.specs.DataKept.{IsDataChanged, data_more, data_self}
 use Rattle.mg_image_overlays.specs.OneLayout.{sound_once}
@@ -56,13 +56,11 @@ use Rattle.mg_image_overlays.specs.QuietSteps.{StepsQuietly, pool_sound_after, q
 use Rattle.mg_image_overlays.specs.QuietVersions.{IsQuiet}
 use Rattle.mg_image_overlays.specs.Rest.{LeavesRest}
 use Rattle.mg_version.specs.declared.cell.Version.{Version}
-use Rattle.mg_value.specs.declared.value.Value.{Value}
 use Rattle.mg_version.specs.declared.cell.Cell.TheVariants as cells
 use Rattle.mg_version.specs.declared.cell.Link.{Link}
-use Rattle.mg_engine_steps.specs.Outs.{AreFirst, GoesWhole, OutsAreRead, TakenTablesKeep, TakesRecordsOut, none_out, takes}
-use Rattle.mg_engine_steps.specs.Taken.{IsWithout, LeavesTables, TakesRows}
+use Rattle.mg_engine_steps.specs.Outs.{GoesWhole, RowAwayKeeps}
+use Rattle.mg_engine_steps.specs.Claims.{left_dead, left_same}
 use Rattle.mg_engine_steps.specs.CatalogPages.{ChangesCatalogPages, catalog_page_named, changes_join, data_changes}
-use Rattle.mg_engine_steps.specs.TakenKept.{left_are_kept}
 
 -- ---- what a step has is within what comes of it
 
@@ -83,14 +81,6 @@ out_within store image contents orders old new rec out within =
     out.taken.swings.frees (within_orders contents orders out.taken.freed new
     (out_orders out.taken.freed.pages rec.page.0 out.was.back out.taken.slot_pointers out.newest.rec.page.0)
     out.taken.ordered within))
-
-pub outs_back : (form : Form) {D L : Type 0} (store : Pool D L) (image : Image) (state : ℕ → TxState) (by : ℕ)
-    (contents : ℕ → Option (List ℕ)) (orders : Orders) (old new : Changed)
-    → TakesRecordsOut form store image state by old new → IsWithin contents orders new → IsWithin contents orders old
-outs_back form store image state by contents orders old new (none_out b) within = within
-outs_back form store image state by contents orders old new (takes a mid c rec table out its placed more) within =
-    out_within store image contents orders a mid rec out
-    (outs_back form store image state by contents orders mid c more within)
 
 -- ---- a record is taken out
 
@@ -322,29 +312,6 @@ module _ (form : Form) (one : RowsAreOne form.coding) (none : HasNoSequences for
       at : (es : List Entry) → Chain (cells_of (viewed store image old)) None es → es ≡ []
       at es ended = refl
 
-  pub out_read : out.was.back ≡ None → (c : Layout) (rc : Reading)
-      → IsSoundBy form store.geometry.size state (viewed store image new) c rc
-      → (start.of_pool ≡ c) × ((p : RecId) → (rc p ≡ start.in_pool p) ⊎ GoesWhole out.was.tx.0 (start.in_pool p) (rc p))
-  out_read first c rc sound = (
-    same.0,
-    λ p. subst (λ (s : Reading). (s p ≡ start.in_pool p) ⊎ GoesWhole out.was.tx.0 (start.in_pool p) (s p)) same.1
-        (each p),
-  )
-    where
-      same : (start.of_pool ≡ c) × (put_reading start.in_pool rec found.older ≡ rc)
-      same = sound_once form one none size state (viewed store image new) start.of_pool c after rc at_new sound
-
-      each : (p : RecId) → (put_reading start.in_pool rec found.older p ≡ start.in_pool p)
-          ⊎ GoesWhole out.was.tx.0 (start.in_pool p) (put_reading start.in_pool rec found.older p)
-      each = put_cases start.in_pool rec found.older
-          (λ q fs. (fs ≡ start.in_pool q) ⊎ GoesWhole out.was.tx.0 (start.in_pool q) fs)
-          (inr (record {
-            version = found.newest;
-            alone = found.first ∙ ap (λ (es : List Entry). found.newest ∷ es) (none_behind first);
-            its = ap (λ (w : Version). w.tx.0) found.version;
-            none = none_behind first;
-          })) (λ q ne. inl refl)
-
   -- the record has gone, and every other one reads as it did
   pub out_there : out.was.back ≡ None → (c : Layout) (rc : Reading)
       → IsSoundBy form store.geometry.size state (viewed store image new) c rc
@@ -417,153 +384,46 @@ module _ (form : Form) (one : RowsAreOne form.coding) (none : HasNoSequences for
         with_slot in_set (inl one_) = sym (ap set_ one_) ∙ in_set
         with_slot in_set (inr two) = lays.together rec.page.0 x.page.0 (orders_out.freed two) has_slot in_set
 
--- ---- one after another
-
-module _ (form : Form) (one : RowsAreOne form.coding) (none : HasNoSequences form)
-    (no_primary : form.in_primary ≡ false) {D L : Type 0} (store : Pool D L) (image : Image) (state : ℕ → TxState)
-    (by : ℕ) (o : Opening) (h : Entries) (contents : ℕ → Option (List ℕ)) (orders : Orders) (chosen : ℕ → Bool)
-    (off : chosen by ≡ false) (dead : left_state chosen state by ≡ Dead) (changed : Pages) (set_ : PageSet) (img : Pages)
-    (lays : LaysBatch (shown store.dirty image) changed contents orders set_ img)
-    (left : (m : ℕ) → contents m ≡ None → shown store.dirty image m ≡ changed m) where
-  pub outs_go : (old new : Changed) → TakesRecordsOut form store image state by old new
-      → IsWithin contents orders new
-      → IsKept form store.geometry.size o h (left_state chosen state) (viewed store image old) (viewed store image old)
-      → IsKept form store.geometry.size o h (left_state chosen state) (viewed store image old)
-      (partly set_ (viewed store image old) img)
-      → IsKept form store.geometry.size o h (left_state chosen state) (viewed store image new)
-      (partly set_ (viewed store image new) img)
-  outs_go old new (none_out b) within whole part = part
-  outs_go old new (takes a mid c rec table out its placed more) within whole part =
-      let at_mid : IsWithin contents orders mid =
-      outs_back form store image state by contents orders mid c more within in
-      let gone_ : left_state chosen state out.was.tx.0 ≡ Dead = ap (left_state chosen state) its ∙ dead in
-      outs_go mid c more within
-      (out_whole form one none no_primary store image (left_state chosen state) o h contents orders a mid rec table out
-      gone_ (placed chosen off) at_mid whole)
-      (out_part form one none no_primary store image (left_state chosen state) o h contents orders a mid rec table out
-      gone_ (placed chosen off) at_mid whole changed set_ img lays left part)
-
--- ---- what is read of all
-
-still_goes : (by : ℕ) (r s u : List Entry) → (s ≡ r) ⊎ GoesWhole by r s → (u ≡ s) ⊎ GoesWhole by s u
-    → (u ≡ r) ⊎ GoesWhole by r u
-still_goes by r s u (inl same) (inl also) = inl (also ∙ same)
-still_goes by r s u (inl same) (inr goes_) = inr (record {
-  version = goes_.version;
-  alone = sym same ∙ goes_.alone;
-  its = goes_.its;
-  none = goes_.none;
-})
-still_goes by r s u (inr goes_) (inl also) = inr (record {
-  version = goes_.version;
-  alone = goes_.alone;
-  its = goes_.its;
-  none = also ∙ goes_.none;
-})
-still_goes by r s u (inr goes_) (inr more) =
-    let both : [] ≡ more.version ∷ [] = sym goes_.none ∙ more.alone in absurd cc
-
-module _ (form : Form) (one : RowsAreOne form.coding) (none : HasNoSequences form)
-    (no_primary : form.in_primary ≡ false) {D L : Type 0} (store : Pool D L) (image : Image) (state : ℕ → TxState)
-    (by : ℕ) (o : Opening) (h : Entries) (contents : ℕ → Option (List ℕ)) (orders : Orders) (chosen : ℕ → Bool)
-    (off : chosen by ≡ false) (dead : left_state chosen state by ≡ Dead) where
-  outs_read : (old new : Changed) (outs : TakesRecordsOut form store image state by old new)
-      → AreFirst form store image state by old new outs → IsWithin contents orders new
-      → (start : IsKept form store.geometry.size o h (left_state chosen state) (viewed store image old)
-      (viewed store image old)) → (c : Layout) (rc : Reading)
-      → IsSoundBy form store.geometry.size (left_state chosen state) (viewed store image new) c rc
-      → (c ≡ start.of_pool) × ((p : RecId) → (rc p ≡ start.in_pool p) ⊎ GoesWhole by (start.in_pool p) (rc p))
-  outs_read old new (none_out b) first within start c rc sound =
-      let same : (start.of_pool ≡ c) × (start.in_pool ≡ rc) = sound_once form one none store.geometry.size
-      (left_state chosen state) (viewed store image b) start.of_pool c start.in_pool rc start.pool_sound sound in
-      (sym same.0, λ p. inl (ap (λ (s : Reading). s p) (sym same.1)))
-  outs_read old new (takes a mid z rec table out its placed more) first within start c rc sound =
-      let at_mid : IsWithin contents orders mid =
-      outs_back form store image state by contents orders mid z more within in
-      let gone_ : left_state chosen state out.was.tx.0 ≡ Dead = ap (left_state chosen state) its ∙ dead in
-      let middle : IsKept form store.geometry.size o h (left_state chosen state) (viewed store image mid)
-      (viewed store image mid) = out_whole form one none no_primary store image (left_state chosen state) o h contents
-      orders a mid rec table out gone_ (placed chosen off) at_mid start in
-      let step : (start.of_pool ≡ middle.of_pool) × ((p : RecId) → (middle.in_pool p ≡ start.in_pool p)
-      ⊎ GoesWhole out.was.tx.0 (start.in_pool p) (middle.in_pool p)) =
-      out_read form one none no_primary store image (left_state chosen state) o h contents orders a mid rec table out
-      gone_ (placed chosen off) at_mid start first.0 middle.of_pool middle.in_pool middle.pool_sound in
-      let rest : (c ≡ middle.of_pool) × ((p : RecId) → (rc p ≡ middle.in_pool p)
-      ⊎ GoesWhole by (middle.in_pool p) (rc p)) = outs_read mid z more first.1 within middle c rc sound in (
-        rest.0 ∙ sym step.0,
-        λ p. still_goes by (start.in_pool p) (middle.in_pool p) (rc p)
-            (subst (λ (u : ℕ). (middle.in_pool p ≡ start.in_pool p)
-            ⊎ GoesWhole u (start.in_pool p) (middle.in_pool p)) its (step.1 p)) (rest.1 p),
-      )
-
-pub outs_are_read : (form : Form) → RowsAreOne form.coding → HasNoSequences form → form.in_primary ≡ false
-    → (D L : Type 0) → OutsAreRead form D L
-outs_are_read form one none no_primary D L store image o h state by chosen batch outs active off first start c rc sound =
-    outs_read form one none no_primary store image state by o h (content_in batch.pages) (lists batch.orders) chosen off
-    dead fresh batch outs first (within_self batch) start c rc sound
-  where
-    dead : left_state chosen state by ≡ Dead
-    dead = rw (off, active) refl
-
--- ---- the history
-
--- what an image has to be, it is for the other history too, where the transaction does not count as in limbo
-later_kept : (form : Form) (n : ℕ) (o : Opening) (h later : Entries) (by : ℕ) (gone : Value → Bool)
-    (state : ℕ → TxState) (whole image : Pages) → IsWithout o h later by gone → state by ≢ Limbo
-    → IsKept form n o h state whole image → IsKept form n o later state whole image
-later_kept form n o h later by gone state whole image without_ out kept = record {
-  of_pool = kept.of_pool;
-  in_pool = kept.in_pool;
-  layout = kept.layout;
-  reading = kept.reading;
-  sound = kept.sound;
-  pool_sound = kept.pool_sound;
-  behind = kept.behind;
-  fronts = kept.fronts;
-  rows = kept.rows;
-  held = kept.held;
-  rows_are = λ name key. kept.rows_are name key ∙ sym (without_.rows name key);
-  changes = kept.changes;
-  changed = kept.changed;
-  changes_are = λ u name key limbo. kept.changes_are u name key limbo
-      ∙ sym (without_.others u name key (λ same. out (ap state (sym same) ∙ limbo)));
-}
-
 -- ---- the law
 
-pub taken_tables_keep : (form : Form) → RowsAreOne form.coding → HasNoSequences form → form.in_primary ≡ false
-    → (D L : Type 0) (m : Meaning D) → TakenTablesKeep form D L m
-taken_tables_keep form one none no_primary D L m before after i j batch asked session o h later by state gone changes
-    outs active not_asked without_ there every =
-    change_keeps_raised (keeping form before.geometry.size o h) (keeping form before.geometry.size o later) state by
+pub row_away_keeps : (form : Form) → RowsAreOne form.coding → HasNoSequences form → form.in_primary ≡ false
+    → (D L : Type 0) (m : Meaning D) → RowAwayKeeps form D L m
+row_away_keeps form one none no_primary D L m before after i j batch asked session o h by state now key changes away
+    active dead others every =
+    change_keeps_always (keeping form before.geometry.size o h) (keeping form before.geometry.size o h) now
     (cache_over before i) (cache_over after j) it.gone (content_in batch.pages) (lists batch.orders)
-    (needs_in asked session before) (needs_in asked session after) it.changes active it.left
-    (needs_all after j asked session by not_asked) (record { part = part; raise = raise }) every
+    (needs_in asked session before) (needs_in asked session after) it.changes it.left part every
   where
     it : BatchIsChanged before after i j batch asked session
     it = changed_fresh m before after i j batch asked session changes
 
-    part : (chosen : ℕ → Bool) (set_ : PageSet) (image : Pages) → chosen by ≡ false
-        → LaysBatch (shown before.dirty i) (shown after.dirty j) (content_in batch.pages)
-        (lists batch.orders) set_ image
-        → IsKept form before.geometry.size o h (left_state chosen state) (shown before.dirty i)
-        (shown before.dirty i)
-        → IsKept form before.geometry.size o h (left_state chosen state) (shown before.dirty i) image
-        → IsKept form before.geometry.size o later (left_state chosen state) (shown after.dirty j)
+    part : (chosen : ℕ → Bool) (set_ : PageSet) (image : Pages)
+        → LaysBatch (shown before.dirty i) (shown after.dirty j) (content_in batch.pages) (lists batch.orders) set_ image
+        → IsKept form before.geometry.size o h (left_state chosen now) (shown before.dirty i) (shown before.dirty i)
+        → IsKept form before.geometry.size o h (left_state chosen now) (shown before.dirty i) image
+        → IsKept form before.geometry.size o h (left_state chosen now) (shown after.dirty j)
         (laid (content_in batch.pages) set_ image)
-    part chosen set_ image out lays of_pool was = later_kept form before.geometry.size o h later by gone
-        (left_state chosen state) (shown after.dirty j) (laid (content_in batch.pages) set_ image) without_
-        not_limbo (subst (λ (pages : Pages). IsKept form before.geometry.size o h (left_state chosen state)
-        pages (laid (content_in batch.pages) set_ image)) (sym it.pool)
-        (subst (IsKept form before.geometry.size o h (left_state chosen state) (viewed before i batch))
+    part chosen set_ image lays of_pool was = subst (λ (pages : Pages). IsKept form before.geometry.size o h
+        (left_state chosen now) pages (laid (content_in batch.pages) set_ image)) (sym it.pool)
+        (subst (IsKept form before.geometry.size o h (left_state chosen now) (viewed before i batch))
         (last_view (shown before.dirty i) (viewed before i batch) (content_in batch.pages)
-        (lists batch.orders) set_ image lays_view) done))
+        (lists batch.orders) set_ image lays_view) done)
       where
-        dead : left_state chosen state by ≡ Dead
-        dead = rw (out, active) refl
+        as_dead : left_state (without by chosen) state ≡ left_state chosen now
+        as_dead = fun_ext (left_same by state now dead others active chosen)
 
-        not_limbo : left_state chosen state by ≢ Limbo
-        not_limbo is = let both : Dead ≡ Limbo = sym dead ∙ is in absurd cc
+        off : without by chosen by ≡ false
+        off = rw (eq-eqb by by refl) refl
+
+        gone_ : left_state chosen now away.out.was.tx.0 ≡ Dead
+        gone_ = ap (left_state chosen now) away.its ∙ (ap (left_by (chosen by)) dead ∙ left_dead (chosen by))
+
+        placed : (layout : Layout) (r : Reading)
+            → IsSoundBy form before.geometry.size (left_state chosen now) (viewed before i fresh) layout r
+            → table_at (stands_of layout) away.rec.page.0 ≡ Some away.table
+        placed layout r sound = away.placed (without by chosen) off layout r
+            (subst (λ (s : ℕ → TxState). IsSoundBy form before.geometry.size s (shown before.dirty i) layout r)
+            (sym as_dead) sound)
 
         lays_view : LaysBatch (shown before.dirty i) (viewed before i batch) (content_in batch.pages)
             (lists batch.orders) set_ image
@@ -574,31 +434,11 @@ taken_tables_keep form one none no_primary D L m before after i j batch asked se
         left q none_ = sym (left_within before i (content_in batch.pages) (lists batch.orders) batch
             (within_self batch) q none_)
 
-        done : IsKept form before.geometry.size o h (left_state chosen state) (viewed before i batch)
+        done : IsKept form before.geometry.size o h (left_state chosen now) (viewed before i batch)
             (partly set_ (viewed before i batch) image)
-        done = outs_go form one none no_primary before i state by o h (content_in batch.pages) (lists batch.orders)
-            chosen out dead (viewed before i batch) set_ image lays_view left fresh batch outs (within_self batch) of_pool
-            (subst (IsKept form before.geometry.size o h (left_state chosen state) (shown before.dirty i))
+        done = out_part form one none no_primary before i (left_state chosen now) o h (content_in batch.pages)
+            (lists batch.orders) fresh batch away.rec away.table away.out gone_ placed (within_self batch) of_pool
+            (viewed before i batch) set_ image lays_view left
+            (subst (IsKept form before.geometry.size o h (left_state chosen now) (shown before.dirty i))
             (sym (first_view (shown before.dirty i) (viewed before i batch) (content_in batch.pages)
             (lists batch.orders) set_ image lays_view)) was)
-
-    raise : (chosen : ℕ → Bool) → chosen by ≡ true
-        → IsKept form before.geometry.size o h (left_state chosen state) (shown before.dirty i) (shown before.dirty i)
-        → IsKept form before.geometry.size o later (left_state (without by chosen) state) (shown after.dirty j)
-        (shown after.dirty j)
-        → IsKept form before.geometry.size o later (left_state chosen state) (shown after.dirty j) (shown after.dirty j)
-    raise chosen on was kept = subst (λ (pages : Pages). IsKept form before.geometry.size o later
-        (left_state chosen state) pages pages) (sym it.pool)
-        (left_are_kept form before.geometry.size o h later (left_state (without by chosen) state)
-        (left_state chosen state) by (shown before.dirty i) (viewed before i batch) kept.of_pool kept.in_pool gone
-        (without_raises state by chosen active on) was sound both.0 both.1 without_)
-      where
-        sound : IsSoundBy form before.geometry.size (left_state (without by chosen) state) (viewed before i batch)
-            kept.of_pool kept.in_pool
-        sound = subst (λ (pages : Pages). IsSoundBy form before.geometry.size (left_state (without by chosen) state) pages
-            kept.of_pool kept.in_pool) it.pool kept.pool_sound
-
-        both : LeavesTables before.geometry.size (shown before.dirty i) (viewed before i batch) was.layout kept.of_pool
-            × TakesRows by was.layout (facts_by (left_state chosen state) (shown before.dirty i) was.layout) was.reading
-            kept.in_pool gone
-        both = there chosen on was kept.of_pool kept.in_pool sound

@@ -1,5 +1,5 @@
--- A batch that takes rows of the catalog out leaves and takes what the law of such a batch wants.
-use Rattle.std.proofs.Common.{◌≡◌, ◌≢◌, ◌⊎◌, inl, inr, refl, sym, ap, ◌∙◌, subst, arith, ◌||◌, ℕ, Bool, true, false, List, [], ◌∷◌, Option, Some}
+-- Batches that take rows of the catalog out leave and take what the law of pages without tables wants.
+use Rattle.std.proofs.Common.{◌≡◌, ◌≢◌, ◌⊎◌, inl, inr, refl, sym, ap, ◌∙◌, subst, arith, ◌||◌, ℕ, Bool, true, false, List, [], ◌∷◌, Some}
 use Rattle.std.proofs.lemmas.Bool.{eq-eqb}
 use Rattle.std.specs.Ordering.{is_eq}
 use Rattle.std.proofs.lemmas.Cmp.{tied_itself}
@@ -9,7 +9,6 @@ use Rattle.mg_base.specs.Image.{Image}
 use Rattle.mg_base.specs.declared.numbers.RecId.{RecId}
 use Rattle.mg_base.specs.declared.transaction.TxState.{TxState}
 use Rattle.mg_base.specs.declared.transaction.TxState.TheVariants.{Active, Dead, Limbo}
-use Rattle.mg_careful.specs.Precedence.{Orders}
 use Rattle.mg_value.specs.declared.value.Value.{Value}
 use Rattle.mg_model.specs.declared.opening.Opening.{Opening}
 use Rattle.mg_model.specs.declared.table.Table.{Table}
@@ -19,7 +18,7 @@ use Rattle.mg_model.specs.Machine.{own}
 use Rattle.mg_model.specs.RowLaws.{same_from_same_key}
 use Rattle.mg_engine_steps.specs.GoesOnLaws.{pool_is_kept}
 use Rattle.mg_engine_steps.specs.SameRecords.{catalog_stands, same_catalog, same_record}
-use Rattle.mg_ties.specs.Batches.{IsWithin, within_self}
+use Rattle.mg_ties.specs.Batches.{within_self}
 use Rattle.mg_image.specs.declared.entry.Entry.{Entry}
 use Rattle.mg_image.specs.Form.{Form, Pages}
 use Rattle.mg_image.specs.Indexes.{EachPage}
@@ -46,8 +45,8 @@ use Rattle.mg_image_overlays.specs.Growing.{IsTableOf}
 use Rattle.mg_image_overlays.specs.OneChain.{same_stand}
 use Rattle.mg_image_overlays.specs.OneLayout.{sound_once}
 use Rattle.mg_engine_steps.specs.CatalogPages.{ChangesCatalogPages, catalog_page_named, changes_join, changes_none}
-use Rattle.mg_engine_steps.specs.Outs.{AreFirst, AreRowsOut, GoesWhole, OutsThere, ReadsWithout, RowsGone, TakesRecordsOut, is_among, none_out, takes}
-use Rattle.mg_engine_steps.specs.OutsLaws.{out_pages, out_there, out_whole, outs_back}
+use Rattle.mg_engine_steps.specs.Outs.{GoesWhole, OutsThere, ReadsWithout, RowsGone, TakesRowAway, is_among}
+use Rattle.mg_engine_steps.specs.OutsLaws.{out_pages, out_there}
 use Rattle.mg_engine_steps.specs.Taken.{HasGone, IsLeft, LeavesTables, TakesRows}
 use Rattle.mg_engine_steps.specs.TakenNames.{catalog_page}
 use Rattle.mg_engine_steps.specs.Whole.{GoWhole}
@@ -61,13 +60,6 @@ among_here k keys key is = rw is refl
 pub same_itself : (key : Value) → same_key key key ≡ true
 same_itself key = ap is_eq (tied_itself value_cmp_total key)
 
-among_more : (k : Value) (keys : List Value) (key : Value) → is_among keys key ≡ true → is_among (k ∷ keys) key ≡ true
-among_more k keys key is = at (same_key k key)
-  where
-    at : (b : Bool) → (b || is_among keys key) ≡ true
-    at true = refl
-    at false = is
-
 among_cases : (k : Value) (keys : List Value) (key : Value) → is_among (k ∷ keys) key ≡ true
     → (k ≡ key) ⊎ (is_among keys key ≡ true)
 among_cases k keys key is = at (same_key k key) refl is
@@ -76,164 +68,81 @@ among_cases k keys key is = at (same_key k key) refl is
     at true same is_ = inl (same_from_same_key k key same)
     at false off is_ = inr is_
 
-pub rows_are_first : (form : Form) {D L : Type 0} (store : Pool D L) (image : Image) (state : ℕ → TxState) (by : ℕ)
-    (old new : Changed) (outs : TakesRecordsOut form store image state by old new) (keys : List Value)
-    → AreRowsOut form store image state by old new outs keys → AreFirst form store image state by old new outs
-rows_are_first form store image state by old new (none_out b) keys are = tt
-rows_are_first form store image state by old new (takes a mid c rec table out its placed more) [] are = absurd are
-rows_are_first form store image state by old new (takes a mid c rec table out its placed more) (key ∷ keys) are =
-    (are.0.first, rows_are_first form store image state by mid c more keys are.1)
-
--- ---- what is read, with the writer dead
-
-module _ (form : Form) (one : RowsAreOne form.coding) (none : HasNoSequences form)
-    (no_primary : form.in_primary ≡ false) {D L : Type 0} (store : Pool D L) (image : Image) (state : ℕ → TxState)
-    (by : ℕ) (o : Opening) (h : Entries) (contents : ℕ → Option (List ℕ)) (orders : Orders) (chosen : ℕ → Bool)
-    (off : chosen by ≡ false) (dead : left_state chosen state by ≡ Dead) where
-  pub rows_go : (old new : Changed) (outs : TakesRecordsOut form store image state by old new) (keys : List Value)
-      → AreRowsOut form store image state by old new outs keys → IsWithin contents orders new
-      → (start : IsKept form store.geometry.size o h (left_state chosen state) (viewed store image old)
-      (viewed store image old)) → (c : Layout) (rc : Reading)
-      → IsSoundBy form store.geometry.size (left_state chosen state) (viewed store image new) c rc
-      → (start.of_pool ≡ c) × ReadsWithout by keys start.of_pool start.in_pool rc
-      × ChangesCatalogPages store.geometry.size (viewed store image old) (viewed store image new) start.of_pool
-  rows_go old new (none_out b) (key ∷ keys) are within start c rc sound = absurd are
-  rows_go old new (none_out b) [] are within start c rc sound =
-      let same : (start.of_pool ≡ c) × (start.in_pool ≡ rc) = sound_once form one none store.geometry.size
-      (left_state chosen state) (viewed store image b) start.of_pool c start.in_pool rc start.pool_sound sound in (
-        same.0,
-        record { each = λ p. inl (ap (λ (s : Reading). s p) (sym same.1)); whole = λ key is. absurd (never is) },
-        changes_none store.geometry.size (viewed store image b) start.of_pool,
-      )
-    where
-      never : false ≡ true → ⊥
-      never is = cc
-  rows_go old new (takes a mid z rec table out its placed more) [] are within start c rc sound = absurd are
-  rows_go old new (takes a mid z rec table out its placed more) (key ∷ keys) are within start c rc sound =
-      joins (rows_go mid z more keys are.1 within middle c rc sound)
-    where
-      at_mid : IsWithin contents orders mid
-      at_mid = outs_back form store image state by contents orders mid z more within
-
-      gone_ : left_state chosen state out.was.tx.0 ≡ Dead
-      gone_ = ap (left_state chosen state) its ∙ dead
-
-      middle : IsKept form store.geometry.size o h (left_state chosen state) (viewed store image mid)
-          (viewed store image mid)
-      middle = out_whole form one none no_primary store image (left_state chosen state) o h contents orders a mid rec
-          table out gone_ (placed chosen off) at_mid start
-
-      step : (start.of_pool ≡ middle.of_pool) × GoesWhole out.was.tx.0 (start.in_pool rec) (middle.in_pool rec)
-          × ((p : RecId) → p ≢ rec → middle.in_pool p ≡ start.in_pool p)
-      step = out_there form one none no_primary store image (left_state chosen state) o h contents orders a mid rec table
-          out gone_ (placed chosen off) at_mid start are.0.first middle.of_pool middle.in_pool middle.pool_sound
-
-      on : (has start.of_pool.catalog.data_pages rec.page.0 ≡ true) × (start.of_pool.catalog.table ≡ table)
-      on = catalog_page_named form store.geometry.size (left_state chosen state) (viewed store image a) start.of_pool
-          start.in_pool start.pool_sound rec.page.0 table (placed chosen off start.of_pool start.in_pool start.pool_sound)
-          are.0.catalog
-
-      keyed : record_key start.of_pool.catalog.table (start.in_pool rec) ≡ key
-      keyed = ap (λ (x : Table). record_key x (start.in_pool rec)) on.1
-          ∙ are.0.keyed chosen off start.of_pool start.in_pool start.pool_sound
-
-      pages : ChangesCatalogPages store.geometry.size (viewed store image a) (viewed store image mid) start.of_pool
-      pages = out_pages form one none no_primary store image (left_state chosen state) o h contents orders a mid rec
-          table out gone_ (placed chosen off) at_mid start are.0.catalog
-
-      joins : (middle.of_pool ≡ c) × ReadsWithout by keys middle.of_pool middle.in_pool rc
-          × ChangesCatalogPages store.geometry.size (viewed store image mid) (viewed store image z) middle.of_pool
-          → (start.of_pool ≡ c) × ReadsWithout by (key ∷ keys) start.of_pool start.in_pool rc
-          × ChangesCatalogPages store.geometry.size (viewed store image a) (viewed store image z) start.of_pool
-      joins (same, reads, changes) = (
-        step.0 ∙ same,
-        record { each = λ p. each p (cases_place p rec); whole = λ k is. whole k (among_cases key keys k is) },
-        changes_join store.geometry.size (viewed store image a) (viewed store image mid) (viewed store image z)
-            start.of_pool pages (subst (ChangesCatalogPages store.geometry.size (viewed store image mid)
-            (viewed store image z)) (sym step.0) changes),
-      )
-        where
-          reads_on : ReadsWithout by keys start.of_pool middle.in_pool rc
-          reads_on = subst (λ (l : Layout). ReadsWithout by keys l middle.in_pool rc) (sym step.0) reads
-
-          -- the record has gone, and nothing comes back
-          stays_gone : (rc rec ≡ middle.in_pool rec)
-              ⊎ (GoesWhole by (middle.in_pool rec) (rc rec)
-              × (is_among keys (record_key start.of_pool.catalog.table (middle.in_pool rec)) ≡ true))
-              → GoesWhole by (start.in_pool rec) (rc rec)
-          stays_gone (inl also) = record {
-            version = step.1.version;
-            alone = step.1.alone;
-            its = step.1.its ∙ its;
-            none = also ∙ step.1.none;
-          }
-          stays_gone (inr (goes_, k)) = let both : [] ≡ goes_.version ∷ [] = sym step.1.none ∙ goes_.alone in absurd cc
-
-          here : GoesWhole by (start.in_pool rec) (rc rec)
-          here = stays_gone (reads_on.each rec)
-
-          each : (p : RecId) → ((p ≡ rec) × (same_place p rec ≡ true)) ⊎ ((p ≢ rec) × (same_place p rec ≡ false))
-              → (rc p ≡ start.in_pool p) ⊎ (GoesWhole by (start.in_pool p) (rc p)
-              × (is_among (key ∷ keys) (record_key start.of_pool.catalog.table (start.in_pool p)) ≡ true))
-          each p (inl (e, is)) = inr (
-            subst (λ (q : RecId). GoesWhole by (start.in_pool q) (rc q)) (sym e) here,
-            ap (λ (q : RecId). is_among (key ∷ keys) (record_key start.of_pool.catalog.table (start.in_pool q))) e
-                ∙ (ap (is_among (key ∷ keys)) keyed ∙ among_here key keys key (same_itself key)),
-          )
-          each p (inr (ne, is)) = at (reads_on.each p)
-            where
-              at : (rc p ≡ middle.in_pool p) ⊎ (GoesWhole by (middle.in_pool p) (rc p)
-                  × (is_among keys (record_key start.of_pool.catalog.table (middle.in_pool p)) ≡ true))
-                  → (rc p ≡ start.in_pool p) ⊎ (GoesWhole by (start.in_pool p) (rc p)
-                  × (is_among (key ∷ keys) (record_key start.of_pool.catalog.table (start.in_pool p)) ≡ true))
-              at (inl same_) = inl (same_ ∙ step.2 p ne)
-              at (inr (goes_, k)) = inr (
-                subst (λ (es : List Entry). GoesWhole by es (rc p)) (step.2 p ne) goes_,
-                among_more key keys (record_key start.of_pool.catalog.table (start.in_pool p))
-                    (sym (ap (λ (es : List Entry). is_among keys (record_key start.of_pool.catalog.table es)) (step.2 p ne))
-                    ∙ k),
-              )
-
-          whole : (k : Value) → (key ≡ k) ⊎ (is_among keys k ≡ true)
-              → (p : RecId) × (has start.of_pool.catalog.data_pages p.page.0 ≡ true)
-              × (record_key start.of_pool.catalog.table (start.in_pool p) ≡ k) × GoesWhole by (start.in_pool p) (rc p)
-          whole k (inl e) = (rec, on.0, keyed ∙ e, here)
-          whole k (inr later) = at (reads_on.whole k later)
-            where
-              at : (p : RecId) × (has start.of_pool.catalog.data_pages p.page.0 ≡ true)
-                  × (record_key start.of_pool.catalog.table (middle.in_pool p) ≡ k) × GoesWhole by (middle.in_pool p) (rc p)
-                  → (p : RecId) × (has start.of_pool.catalog.data_pages p.page.0 ≡ true)
-                  × (record_key start.of_pool.catalog.table (start.in_pool p) ≡ k) × GoesWhole by (start.in_pool p) (rc p)
-              at (p, there, its_key, goes_) = split (cases_place p rec)
-                where
-                  split : ((p ≡ rec) × (same_place p rec ≡ true)) ⊎ ((p ≢ rec) × (same_place p rec ≡ false))
-                      → (q : RecId) × (has start.of_pool.catalog.data_pages q.page.0 ≡ true)
-                      × (record_key start.of_pool.catalog.table (start.in_pool q) ≡ k)
-                      × GoesWhole by (start.in_pool q) (rc q)
-                  split (inl (e, is)) =
-                      let both : [] ≡ goes_.version ∷ [] = sym step.1.none
-                      ∙ (ap middle.in_pool (sym e) ∙ goes_.alone) in absurd cc
-                  split (inr (ne, is)) = (
-                    p,
-                    there,
-                    sym (ap (record_key start.of_pool.catalog.table) (step.2 p ne)) ∙ its_key,
-                    subst (λ (es : List Entry). GoesWhole by es (rc p)) (step.2 p ne) goes_,
-                  )
-
 -- ---- rows that go
 
--- a batch of such rows
-pub batch_gone : (form : Form) → RowsAreOne form.coding → HasNoSequences form → form.in_primary ≡ false → {D L : Type 0}
-    → (store : Pool D L) (image : Image) (o : Opening) (h : Entries) (state : ℕ → TxState) (by : ℕ) (keys : List Value)
-    (batch : Changed) (outs : TakesRecordsOut form store image state by fresh batch) → state by ≡ Active
-    → AreRowsOut form store image state by fresh batch outs keys
-    → RowsGone form store.geometry.size o h state by keys (shown store.dirty image) (viewed store image batch)
-batch_gone form one none no_primary store image o h state by keys batch outs active are chosen off start c rc sound =
-    rows_go form one none no_primary store image state by o h (content_in batch.pages) (lists batch.orders) chosen off
-    dead fresh batch outs keys are (within_self batch) start c rc sound
-  where
-    dead : left_state chosen state by ≡ Dead
-    dead = rw (off, active) refl
+-- one row, in a batch of its own
+module _ (form : Form) (one : RowsAreOne form.coding) (none : HasNoSequences form)
+    (no_primary : form.in_primary ≡ false) {D L : Type 0} (store : Pool D L) (image : Image) (o : Opening) (h : Entries)
+    (state : ℕ → TxState) (by : ℕ) (key : Value) (batch : Changed)
+    (away : TakesRowAway form store image state by key batch) (active : state by ≡ Active) (chosen : ℕ → Bool)
+    (off : chosen by ≡ false)
+    (start : IsKept form store.geometry.size o h (left_state chosen state) (shown store.dirty image)
+    (shown store.dirty image)) (c : Layout) (rc : Reading)
+    (sound : IsSoundBy form store.geometry.size (left_state chosen state) (viewed store image batch) c rc) where
+  abbrev rec : RecId
+  rec = away.rec
+
+  gone_ : left_state chosen state away.out.was.tx.0 ≡ Dead
+  gone_ = ap (left_state chosen state) away.its ∙ rw (off, active) refl
+
+  placed_here : (layout : Layout) (r : Reading)
+      → IsSoundBy form store.geometry.size (left_state chosen state) (viewed store image fresh) layout r
+      → table_at (stands_of layout) away.rec.page.0 ≡ Some away.table
+  placed_here layout r its = away.placed chosen off layout r its
+
+  step : (start.of_pool ≡ c) × GoesWhole away.out.was.tx.0 (start.in_pool away.rec) (rc away.rec)
+      × ((p : RecId) → p ≢ away.rec → rc p ≡ start.in_pool p)
+  step = out_there form one none no_primary store image (left_state chosen state) o h (content_in batch.pages)
+      (lists batch.orders) fresh batch away.rec away.table away.out gone_ placed_here (within_self batch) start away.first
+      c rc sound
+
+  on : (has start.of_pool.catalog.data_pages away.rec.page.0 ≡ true) × (start.of_pool.catalog.table ≡ away.table)
+  on = catalog_page_named form store.geometry.size (left_state chosen state) (shown store.dirty image) start.of_pool
+      start.in_pool start.pool_sound away.rec.page.0 away.table
+      (placed_here start.of_pool start.in_pool start.pool_sound) away.catalog
+
+  keyed : record_key start.of_pool.catalog.table (start.in_pool away.rec) ≡ key
+  keyed = ap (λ (x : Table). record_key x (start.in_pool away.rec)) on.1
+      ∙ away.keyed chosen off start.of_pool start.in_pool start.pool_sound
+
+  went : GoesWhole by (start.in_pool away.rec) (rc away.rec)
+  went = subst (λ (u : ℕ). GoesWhole u (start.in_pool away.rec) (rc away.rec)) away.its step.1
+
+  each : (p : RecId) → ((p ≡ away.rec) × (same_place p away.rec ≡ true)) ⊎ ((p ≢ away.rec) × (same_place p away.rec ≡ false))
+      → (rc p ≡ start.in_pool p) ⊎ (GoesWhole by (start.in_pool p) (rc p)
+      × (is_among (key ∷ []) (record_key start.of_pool.catalog.table (start.in_pool p)) ≡ true))
+  each p (inl (e, is)) = inr (
+    subst (λ (q : RecId). GoesWhole by (start.in_pool q) (rc q)) (sym e) went,
+    ap (λ (q : RecId). is_among (key ∷ []) (record_key start.of_pool.catalog.table (start.in_pool q))) e
+        ∙ (ap (is_among (key ∷ [])) keyed ∙ among_here key [] key (same_itself key)),
+  )
+  each p (inr (ne, is)) = inl (step.2 p ne)
+
+  whole : (k : Value) → (key ≡ k) ⊎ (is_among [] k ≡ true)
+      → (p : RecId) × (has start.of_pool.catalog.data_pages p.page.0 ≡ true)
+      × (record_key start.of_pool.catalog.table (start.in_pool p) ≡ k) × GoesWhole by (start.in_pool p) (rc p)
+  whole k (inl e) = (away.rec, on.0, keyed ∙ e, went)
+  whole k (inr never) = absurd cc
+
+  pub row_read : (start.of_pool ≡ c) × ReadsWithout by (key ∷ []) start.of_pool start.in_pool rc
+      × ChangesCatalogPages store.geometry.size (shown store.dirty image) (viewed store image batch) start.of_pool
+  row_read = (
+    step.0,
+    record {
+      each = λ p. each p (cases_place p away.rec);
+      whole = λ k is. whole k (among_cases key [] k is);
+    },
+    out_pages form one none no_primary store image (left_state chosen state) o h (content_in batch.pages)
+        (lists batch.orders) fresh batch away.rec away.table away.out gone_ placed_here (within_self batch) start
+        away.catalog,
+  )
+
+pub row_gone : (form : Form) → RowsAreOne form.coding → HasNoSequences form → form.in_primary ≡ false → {D L : Type 0}
+    → (store : Pool D L) (image : Image) (o : Opening) (h : Entries) (state : ℕ → TxState) (by : ℕ) (key : Value)
+    (batch : Changed) → TakesRowAway form store image state by key batch → state by ≡ Active
+    → RowsGone form store.geometry.size o h state by (key ∷ []) (shown store.dirty image) (viewed store image batch)
+row_gone form one none no_primary store image o h state by key batch away active chosen off start c rc sound =
+    row_read form one none no_primary store image o h state by key batch away active chosen off start c rc sound
 
 -- no batch at all
 pub none_gone : (form : Form) → RowsAreOne form.coding → HasNoSequences form → (size : ℕ) (o : Opening) (h : Entries)
@@ -335,24 +244,24 @@ pub gone_join : (form : Form) (size : ℕ) (o : Opening) (h mid_h : Entries) (st
     (its others keys : List Value) (old mid new : Pages)
     → ((key : Value) → is_among keys key ≡ (is_among its key || is_among others key))
     → RowsGone form size o h state by its old mid → RowsGone form size o mid_h state by others mid new
-    → ((chosen : ℕ → Bool) → IsKept form size o mid_h (left_state chosen state) mid mid)
+    → ((chosen : ℕ → Bool) → chosen by ≡ false → IsKept form size o mid_h (left_state chosen state) mid mid)
     → RowsGone form size o h state by keys old new
 gone_join form size o h mid_h state by its others keys old mid new both first then_ kept chosen off start c rc sound = (
   one_.0 ∙ two.0,
-  reads_join by its others keys both start.of_pool start.in_pool (kept chosen).in_pool rc one_.1
-      (subst (λ (l : Layout). ReadsWithout by others l (kept chosen).in_pool rc) (sym one_.0) two.1),
+  reads_join by its others keys both start.of_pool start.in_pool (kept chosen off).in_pool rc one_.1
+      (subst (λ (l : Layout). ReadsWithout by others l (kept chosen off).in_pool rc) (sym one_.0) two.1),
   changes_join size old mid new start.of_pool one_.2
       (subst (ChangesCatalogPages size mid new) (sym one_.0) two.2),
 )
   where
-    one_ : (start.of_pool ≡ (kept chosen).of_pool)
-        × ReadsWithout by its start.of_pool start.in_pool (kept chosen).in_pool
+    one_ : (start.of_pool ≡ (kept chosen off).of_pool)
+        × ReadsWithout by its start.of_pool start.in_pool (kept chosen off).in_pool
         × ChangesCatalogPages size old mid start.of_pool
-    one_ = first chosen off start (kept chosen).of_pool (kept chosen).in_pool (kept chosen).pool_sound
+    one_ = first chosen off start (kept chosen off).of_pool (kept chosen off).in_pool (kept chosen off).pool_sound
 
-    two : ((kept chosen).of_pool ≡ c) × ReadsWithout by others (kept chosen).of_pool (kept chosen).in_pool rc
-        × ChangesCatalogPages size mid new (kept chosen).of_pool
-    two = then_ chosen off (kept chosen) c rc sound
+    two : ((kept chosen off).of_pool ≡ c) × ReadsWithout by others (kept chosen off).of_pool (kept chosen off).in_pool rc
+        × ChangesCatalogPages size mid new (kept chosen off).of_pool
+    two = then_ chosen off (kept chosen off) c rc sound
 
 -- ---- the law
 
@@ -507,11 +416,11 @@ module _ (form : Form) (one : RowsAreOne form.coding) (none : HasNoSequences for
                 (sym key ∙ (ap (λ (x : Table). record_key x (start.in_pool q)) (sym one_table)
                 ∙ ap (record_key cat) (sym q_reads)))
 
-    each : (p : RecId) → has was.layout.catalog.data_pages p.page.0 ≡ true
+    each_out : (p : RecId) → has was.layout.catalog.data_pages p.page.0 ≡ true
         → HasGone (is_among keys) was.layout.catalog.table by (was.reading p) (rc p)
         ⊎ IsLeft (is_among keys) (facts_by (left_state chosen state) (shown store.dirty image) was.layout)
         was.layout.catalog.table (was.reading p) (rc p)
-    each p here = at (reads.each p)
+    each_out p here = at (reads.each p)
       where
         still : rc p ≡ start.in_pool p → TakesKey f (was.reading p) → (b : Bool)
             → is_among keys (record_key cat (was.reading p)) ≡ b
@@ -558,7 +467,7 @@ module _ (form : Form) (one : RowsAreOne form.coding) (none : HasNoSequences for
     outs_leave = (
       leaves,
       record {
-        each = each;
+        each = each_out;
         whole = gone_are_whole form size o h now by old was (is_among keys) limbo goes alone;
       },
     )

@@ -1,6 +1,6 @@
--- The rows of tables that a transaction has made go, those of each table in one batch, once the changes of other tables are
--- taken back.
-use Rattle.std.specs.Prelude.{◌≡◌, ◌∷◌, ◌++◌, [], ℕ, Bool, true, List, None, Some, is_some}
+-- The rows of tables that a transaction has made go, each in a batch of its own, once the changes of other tables are taken
+-- back.
+use Rattle.std.specs.Prelude.{◌≡◌, ◌∷◌, ◌++◌, [], ℕ, Bool, true, false, List, None, Some, is_some}
 use Rattle.mg_base.specs.Disk.{Meaning}
 use Rattle.mg_base.specs.Image.{Image}
 use Rattle.mg_base.specs.declared.transaction.TxState.{TxState}
@@ -8,9 +8,9 @@ use Rattle.mg_value.specs.declared.value.Value.{Value}
 use Rattle.mg_engine_steps.specs.Following.{FollowsEntry}
 use Rattle.mg_engine_steps.specs.ListShows.{TipsStay}
 use Rattle.mg_engine_steps.specs.Standing.{Remembers, ShowsHistory, Standing}
-use Rattle.mg_engine_steps.specs.Again.{AreTaken, again, without_rows}
+use Rattle.mg_engine_steps.specs.Again.{AreTaken, again}
 use Rattle.mg_engine_steps.specs.Knowing.{WasChanged}
-use Rattle.mg_engine_steps.specs.Midway.{GoesBack, IsMidway}
+use Rattle.mg_engine_steps.specs.Midway.{GoesBack, IsMidway, LastsDead}
 use Rattle.mg_engine_steps.specs.Shown.{ShowsMidway}
 use Rattle.mg_grown_catalogs.specs.Grown.{CatalogGrows}
 use Rattle.mg_image.specs.Form.{Pages, packed_form}
@@ -37,8 +37,7 @@ use Rattle.mg_pool.specs.declared.pool.Pool.{Pool}
 use Rattle.mg_pool_overlays.specs.Needs.{Asked, Sessions}
 use Rattle.mg_ties.specs.Changed.{fresh}
 use Rattle.mg_image_overlays.specs.Growing.{IsTableOf}
-use Rattle.mg_table_unmaking.specs.Rows.{TakesRows}
-use Rattle.mg_table_unmaking.specs.Tables.{keys_with, keys_without}
+use Rattle.mg_table_unmaking.specs.Rows.{TakesRow}
 use Rattle.mg_engine_steps.specs.LeftShown.{TakesTables}
 use Rattle.mg_engine_steps.specs.Outs.{RowsGone, is_among}
 use Rattle.mg_engine_steps.specs.Whole.{GoWhole}
@@ -67,6 +66,12 @@ StoodBefore size state pages later = (chosen : ℕ → Bool) (layout : Layout) (
     → IsSoundBy packed_form size (left_state chosen state) later layout q → (its : Table) → IsTableOf layout its
     → StoodUnder size (left_state chosen state) pages its
 
+-- the same of the choices that are made without a transaction
+abbrev pub StoodBeside : ℕ → (ℕ → TxState) → ℕ → Pages → Pages → Type 0
+StoodBeside size state t pages later = (chosen : ℕ → Bool) → chosen t ≡ false → (layout : Layout) (q : Reading)
+    → IsSoundBy packed_form size (left_state chosen state) later layout q → (its : Table) → IsTableOf layout its
+    → StoodUnder size (left_state chosen state) pages its
+
 -- What the batches have taken: the rows and their tables, and no page of transactions has changed. Each table that stands
 -- then stood before.
 pub record TakesOnPages (size : ℕ) (o : Opening) (h : Entries) (e : Entry) (t : ℕ) (left : List Change) (s : Standing)
@@ -78,27 +83,26 @@ pub record TakesOnPages (size : ℕ) (o : Opening) (h : Entries) (e : Entry) (t 
 
 -- ---- the batches
 
--- The rows of a table that were left to take back are taken out in a batch, and it was changed: the cache then, over a disk
--- that tells its image.
-pub record TakesTheRows {D L : Type 0} (m : Meaning D) (s : Standing) (t : ℕ) (keys : List Value)
-    (before after : Pool D L) (i j : Image) : Type 0 where
+-- The row of a key is taken out of the catalog in a batch, and it was changed: the cache then, over a disk that tells its
+-- image.
+pub record TakesTheRow {D L : Type 0} (m : Meaning D) (s : Standing) (t : ℕ) (key : Value) (before after : Pool D L)
+    (i j : Image) : Type 0 where
   pub table : Table
   pub catalog : catalog_table (header_of (shown before.dirty i)).catalog.0 ≡ table
   pub batch : Changed
-  pub takes : TakesRows before i s.state s.live t table keys fresh batch
+  pub takes : TakesRow before i s.state s.live t table key fresh batch
   pub was : WasChanged m before after i j batch
   pub pool : IsPool m after
   pub held : m.held after.disk ≡ Some j
   pub size_is : after.geometry.size ≡ before.geometry.size
 
--- Table by table, those of the first key's table first.
-pub data TakesEachTable {D L : Type 0} (m : Meaning D) (s : Standing) (t : ℕ)
+-- one row after another
+pub data TakesEachRow {D L : Type 0} (m : Meaning D) (s : Standing) (t : ℕ)
     : List Value → Pool D L → Pool D L → Image → Image → Type 0 where
-  no_table : (pool : Pool D L) (i : Image) → TakesEachTable m s t [] pool pool i i
-  one_table : (key : Value) (keys : List Value) (before mid after : Pool D L) (i k j : Image)
-      → TakesTheRows m s t (keys_with key (key ∷ keys)) before mid i k
-      → TakesEachTable m s t (keys_without key (key ∷ keys)) mid after k j
-      → TakesEachTable m s t (key ∷ keys) before after i j
+  no_row : (pool : Pool D L) (i : Image) → TakesEachRow m s t [] pool pool i i
+  one_row : (key : Value) (keys : List Value) (before mid after : Pool D L) (i k j : Image)
+      → TakesTheRow m s t key before mid i k → TakesEachRow m s t keys mid after k j
+      → TakesEachRow m s t (key ∷ keys) before after i j
 
 -- ---- the laws
 
@@ -111,7 +115,7 @@ TablesAreTaken D L m = (o : Opening) (h : Entries) (e : Entry) (point : Point) (
     → AreRowsLeft o h e t left keys
     → IsMidway m packed_form before.geometry.size o h e t left s start before i asked session
     → (shows : ShowsMidway packed_form before.geometry.size o h e t whole left s begun first (shown before.dirty i))
-    → TakesEachTable m s t keys before after i j
+    → TakesEachRow m s t keys before after i j
     → TakesOnPages before.geometry.size o h e t left s shows.layout shows.reading (shown before.dirty i)
     (shown after.dirty j) (is_among keys)
 
@@ -125,24 +129,23 @@ TablesGoBack D L m = (o : Opening) (h : Entries) (e : Entry) (point : Point) (s 
     → AreRowsLeft o h e t left keys
     → IsMidway m packed_form before.geometry.size o h e t left s start before i asked session
     → ShowsMidway packed_form before.geometry.size o h e t whole left s begun first (shown before.dirty i)
-    → TakesEachTable m s t keys before after i j
+    → TakesEachRow m s t keys before after i j
     → IsMidway m packed_form before.geometry.size o h e t [] s start after j asked session
     × ((new : Standing) → FollowsEntry o h e s new → new.number t ≡ s.number t
     → ((name : List ℕ) (table : Table) → new.table t name ≡ Some table → s.table t name ≡ Some table)
     → ShowsHistory packed_form before.geometry.size o (e ∷ h) new (shown after.dirty j))
 
--- One table more: in every overlay the transaction has what is left without its rows; on the pages its rows have gone, the
--- header is as it was, and each table that stands then stood before.
-abbrev pub TablesGoOn : (D L : Type 0) → Meaning D → Type 0
-TablesGoOn D L m = (o : Opening) (h : Entries) (e : Entry) (point : Point) (s : Standing)
+-- One row more: whatever comes of the next ones, the cache lasts as in the middle of a way back. By a history in which the
+-- transaction gives some changes again the row has gone from the pages, where that counts as dead; the header is as it was,
+-- and each table that stands then stood before.
+abbrev pub RowsGoOn : (D L : Type 0) → Meaning D → Type 0
+RowsGoOn D L m = (o : Opening) (h : Entries) (e : Entry) (point : Point) (s : Standing)
     (start before after : Pool D L) (i j : Image) (asked : Asked) (session : Sessions) (t : ℕ)
-    (left : List Change) (of : Value) (keys : List Value) → MayBegin o → IsLegal o (e ∷ h) → CatalogGrows o h
-    → Remembers o h s → GoesBack o h e point s asked t → AreRowsLeft o h e t left keys
-    → IsMidway m packed_form before.geometry.size o h e t left s start before i asked session
-    → TakesTheRows m s t (keys_with of keys) before after i j
-    → IsMidway m packed_form before.geometry.size o h e t (without_rows (keys_with of keys) left) s start after j asked
-    session
-    × RowsGone packed_form before.geometry.size o (again t left (e ∷ h)) s.state t (keys_with of keys)
+    (left : List Change) (key : Value) → MayBegin o → IsLegal o h → Remembers o h s → GoesBack o h e point s asked t
+    → LastsDead m packed_form before.geometry.size o h t start before asked session
+    → TakesTheRow m s t key before after i j
+    → LastsDead m packed_form before.geometry.size o h t start after asked session
+    × RowsGone packed_form before.geometry.size o (again t left (e ∷ h)) s.state t (key ∷ [])
     (shown before.dirty i) (shown after.dirty j)
     × (shown after.dirty j 0 ≡ shown before.dirty i 0)
-    × StoodBefore before.geometry.size s.state (shown before.dirty i) (shown after.dirty j)
+    × StoodBeside before.geometry.size s.state t (shown before.dirty i) (shown after.dirty j)

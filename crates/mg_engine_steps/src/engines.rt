@@ -7,7 +7,7 @@ use mg_base::Disk;
 use mg_careful::Links;
 use mg_model::histories_go_on;
 
-/// Once the rows of its tables have gone, those of each in one batch, the engine stands for the history with the entry.
+/// Once the rows of its tables have gone, each in a batch of its own, the engine stands for the history with the entry.
 pub fn engines_take_tables<D: Disk, L: Links>()
     ensures { EnginesTakeTables D L D.meaning }
 {

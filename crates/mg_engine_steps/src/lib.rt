@@ -32,21 +32,19 @@
 //!   as dead, to those after in which it counts as in limbo: they are sound, and have all that was read before but for
 //!   the tables that have gone (`LeftAreSound`); and they are what they have to be for the history without those rows
 //!   (`LeftAreKept`).
-//! - `batches`: several records are taken out in one batch, one after another (`TakesRecordsOut`), rows of the catalog
-//!   with whole tables of theirs: every overlay is kept for the history without them (`TakenTablesKeep`). The steps are
-//!   taken with the maker dead, and the last one is the law of `pages`, which has what it wants of the batch by
-//!   `OutsThere`. That holds of several batches in turn as well, since with the maker dead they add up (`RowsGone`). With the
-//!   maker dead the pages keep their layout, and each record reads as it did or has gone
-//!   (`OutsAreRead`). What `take_rows_out` of mg_table_unmaking takes out is such a batch (`RowsAreTaken`).
+//! - `batches`: a row of the catalog is taken out in a batch of its own (`TakesRowAway`): every overlay is kept in which its
+//!   maker counts as dead (`RowAwayKeeps`). What `take_row_out` of mg_table_unmaking takes out is such a row
+//!   (`RowsAreTaken`). With the maker dead such batches add up (`RowsGone`), and after those of whole tables the pages leave
+//!   and take what the law of `pages` wants (`OutsThere`).
 //! - `histories`: a transaction has no change left of a table whose row it has taken back (`ChangedAreThere`), and sees the
 //!   tables that it saw but for these (`ShapesLeft`).
-//! - `shown`: the pages after show the history with the entry (`ShowsLeft`). The rows of each table go in a batch of their
-//!   own, after which those of the others are left to take back (`TablesGoOn`), and the last of these batches is the last
-//!   step on the way back to a point (`TablesGoBack`).
+//! - `shown`: the pages after show the history with the entry (`ShowsLeft`). After each row the cache lasts with the maker
+//!   dead (`RowsGoOn`), whatever comes of the next one; once those of whole tables have gone, every overlay is what it has to
+//!   be again, also with the maker in limbo, and the last row is the last step on the way back to a point (`TablesGoBack`).
 //! - `engines`: the engine stands for the history with the entry then (`EnginesTakeTables`).
 //!
-//! So the rows of the catalog since a point go table by table, after the keys of all other tables, and those of one table in
-//! one batch: no overlay has half a table.
+//! So the rows of the catalog since a point go one after another, after the keys of all other tables. Between two rows of a
+//! table no overlay is that counts its maker as in limbo: it goes on to the end of the way, or is given up.
 //!
 //! # Tables by their names, and walks
 //!
@@ -91,9 +89,7 @@ mod writes;
 
 pub use answers::{keys_are_answered, tables_are_answered, walks_are_answered};
 pub use backs::{changes_are_taken_back, engines_go_back, pages_show_what_is_taken_back};
-pub use batches::{
-    rows_are_taken, taken_tables_are_read, taken_tables_are_there, taken_tables_keep,
-};
+pub use batches::{rows_are_taken, rows_away_keep, taken_tables_are_there};
 pub use commits::{commits_fail, commits_go_on, lists_go_on, page_writes_go_on, tips_stay};
 pub use engines::engines_take_tables;
 pub use entries::{begins_go_on, draws_stay_sound, entries_go_on};
@@ -104,7 +100,7 @@ pub use lawful::{databases_are_lawful, seen_rows_are_lawful};
 pub use pages::left_tables_stand;
 pub use rows::{gone_tables_are_whole, tables_are_left};
 pub use seen::newest_are_seen;
-pub use shown::{left_tables_are_shown, tables_go_back, tables_go_on};
+pub use shown::{left_tables_are_shown, rows_go_on, tables_go_back};
 pub use standing::{
     chains_go_on, memory_follows, pages_go_on, quiet_pages_go_on, standings_begin, standings_go_on,
     tests_tell_whom_all_see, versions_go_on,

@@ -1,11 +1,11 @@
 //! What is known once tables are taken back. Each function does nothing: its contract is the law.
 
 ghost use Rattle.mg_engine_steps.specs.LeftShown.{ShowsLeft};
-ghost use Rattle.mg_engine_steps.specs.TablesBack.{TablesAreTaken, TablesGoBack, TablesGoOn};
+ghost use Rattle.mg_engine_steps.specs.TablesBack.{RowsGoOn, TablesAreTaken, TablesGoBack};
 
 use crate::{
-    batches_last, changed_tables_are_there, memory_follows, rows_are_taken, taken_tables_are_there,
-    taken_tables_keep,
+    batches_last, changed_tables_are_there, memory_follows, rows_are_taken, rows_away_keep,
+    taken_tables_are_there,
 };
 use mg_base::Disk;
 use mg_careful::Links;
@@ -22,15 +22,13 @@ pub fn left_tables_are_shown()
     changed_tables_are_there();
 }
 
-/// The rows of one table go in a batch, and those of the others are left to take back.
-pub fn tables_go_on<D: Disk, L: Links>()
-    ensures { TablesGoOn D L D.meaning }
+/// A row goes in a batch of its own, with its maker dead whatever comes of the next ones.
+pub fn rows_go_on<D: Disk, L: Links>()
+    ensures { RowsGoOn D L D.meaning }
 {
     one_reading();
     batches_last::<D, L>();
-    taken_tables_keep::<D, L>();
-    taken_tables_are_there::<D, L>();
-    changed_tables_are_there();
+    rows_away_keep::<D, L>();
     rows_are_taken::<D, L>();
 }
 
@@ -42,5 +40,6 @@ pub fn tables_go_back<D: Disk, L: Links>()
     one_reading();
     left_tables_are_shown();
     taken_tables_are_there::<D, L>();
-    tables_go_on::<D, L>();
+    changed_tables_are_there();
+    rows_go_on::<D, L>();
 }

@@ -9,7 +9,7 @@ pub mod GrowthLaws
 pub mod KindLaws
 pub mod PutsExact
 pub mod RowSpending
-pub mod RowsOutSpending
+pub mod RowOutSpending
 pub mod Spending
 pub mod SpendingLaws
 pub mod TableRefusals

@@ -1,5 +1,5 @@
 -- A transaction is taken back to a point over tables that it has made: the engine finds no page damaged.
-use Rattle.std.proofs.Common.{◌≡◌, ◌≢◌, ◌⊎◌, inl, inr, ◌==◌, ◌++◌, ap, refl, sym, subst, ◌∙◌, ℕ, Bool, true, false, List, [], ◌∷◌, Ok, Err}
+use Rattle.std.proofs.Common.{◌≡◌, ◌≢◌, ◌==◌, ◌++◌, ap, refl, sym, subst, ◌∙◌, ℕ, Bool, true, false, List, [], ◌∷◌, Ok, Err}
 use Rattle.std.proofs.lemmas.Bool.{ne_eqb}
 use Rattle.std.specs.Prelude.{if◌then◌else◌, map}
 use Rattle.mg_base.specs.Disk.{Meaning}
@@ -9,25 +9,26 @@ use Rattle.mg_base.specs.declared.numbers.TxNo.{TxNo}
 use Rattle.mg_core.specs.Cores.{IsCatalog, IsCore}
 use Rattle.mg_core.specs.Refusing.{CountsFault}
 use Rattle.mg_core.specs.declared.parts.Core.{Core}
-use Rattle.mg_engine_changes.specs.BackBegun.{knows}
+use Rattle.mg_engine_changes.specs.BackBegun.{goes, knows}
 use Rattle.mg_engine_changes.specs.Events.{may_go, takes_back}
 use Rattle.mg_engine_changes.specs.Keys.{HasTakenKeys, IsOfTable}
 use Rattle.mg_engine_changes.specs.Known.{KnownOfBacks}
 use Rattle.mg_engine_changes.specs.Memory.{MayGoTo}
 use Rattle.mg_engine_changes.specs.Outcomes.{back_event}
-use Rattle.mg_engine_changes.specs.ListsTell.{ListsTellWhole}
-use Rattle.mg_engine_changes.specs.OverRows.{StopsAmong, has_taken, lost_at, stops_among, taken_mid}
+use Rattle.mg_engine_changes.specs.OverRows.{StopsAmong, has_taken, lost_at, stops_among}
 use Rattle.mg_engine_changes.specs.RowsLost.{HasLost}
-use Rattle.mg_engine_steps.specs.TablesBack.{TablesGoOn}
-use Rattle.mg_table_unmaking.specs.Tables.{keys_without}
+use Rattle.mg_engine_steps.specs.TablesBack.{RowsGoOn}
+use Rattle.mg_engine_steps.specs.DeadMidway.{dead_pool, every_from}
+use Rattle.mg_image_overlays.specs.KeptImages.{IsKept}
+use Rattle.mg_overlays.specs.Overlays.{left_state, nobody}
 use Rattle.mg_engine_changes.specs.OverGiven.{each_of_table, others_are}
-use Rattle.mg_engine_changes.specs.RowsGiven.{GivenApart, RowsAreLeft, of_catalog, of_others}
+use Rattle.mg_engine_changes.specs.RowsGiven.{GivenApart, of_catalog, of_others}
 use Rattle.mg_engine_changes.specs.StopsAfter.{begun_as}
 use Rattle.mg_engine_changes.specs.ToTake.{AreKeysOf, EachChange, since_point}
 use Rattle.mg_engine_meaning.specs.Standings.{ShowsIt, StandsFor, asked_in, sessions_in, standing_of, undo_kept}
 use Rattle.mg_engine_meaning.specs.StepLaws.{shows_of}
 use Rattle.mg_engine_steps.specs.Standing.{Standing}
-use Rattle.mg_engine_steps.specs.Again.{again}
+use Rattle.mg_engine_steps.specs.Again.{rolling}
 use Rattle.mg_image.specs.Catalog.{catalog_table}
 use Rattle.mg_image.specs.Form.{packed_form}
 use Rattle.mg_image.specs.Inventory.{header_of}
@@ -40,20 +41,15 @@ use Rattle.mg_model.specs.declared.change.Point.TheVariants.{LastMark, Savepoint
 use Rattle.mg_model.specs.declared.opening.Opening.{Opening}
 use Rattle.mg_model.specs.declared.refusal.Refusal.{Refusal}
 use Rattle.mg_model.specs.declared.table.Table.{Table}
-use Rattle.mg_pool.specs.Batch.{Changed}
 use Rattle.mg_pool.specs.Pool.{shown}
 use Rattle.mg_pool.specs.declared.fault.PoolFault.TheVariants as pool_faults
 use Rattle.mg_pool.specs.declared.pool.Pool.{Pool}
-use Rattle.mg_row_writes.specs.Changing.{FailsOwn, not_changed, not_filled}
-use Rattle.mg_space.specs.View.{Tells}
-use Rattle.mg_space.specs.ViewLaws.{tells_on}
 use Rattle.mg_space.specs.declared.fault.SpaceFault.{SpaceFault}
 use Rattle.mg_space.specs.declared.fault.SpaceFault.TheVariants as faults
 use Rattle.mg_space.specs.declared.links.FireLinks.{FireLinks}
-use Rattle.mg_ties.specs.Changed.{KeptIn}
-use Rattle.mg_table_takings.specs.Keys.{AreRowsToTake, others_of}
-use Rattle.mg_table_takings.specs.Takings.{FailsTablesTo, FailsTheRows, StopsBoth, StopsOthers, TakesOthers, TakesTables, TakesTablesTo, no_table, one_table, rows_unknown, stops_at_other, stops_at_rows, tables_not_begun, tables_not_copied, tables_not_taken, tables_stopped}
-use Rattle.mg_table_unmaking.specs.Rows.{FailsRowsOut}
+use Rattle.mg_table_takings.specs.Keys.{others_of}
+use Rattle.mg_table_takings.specs.Takings.{FailsTablesTo, FailsTheRow, StopsBoth, StopsOthers, TakesOthers, TakesRows, TakesTablesTo, no_row, one_row, rows_unknown, stops_at_other, stops_at_rows, tables_not_begun, tables_not_copied, tables_not_taken, tables_stopped}
+use Rattle.mg_table_unmaking.specs.Rows.{FailsRowOut}
 use Rattle.mg_taking_back.specs.Taking.{HasBegun, MayReach, TakesChanges, not_asking}
 use Rattle.mg_txlist.specs.TxList.{said}
 use Rattle.mg_undo.specs.Machine.{first_of, given_from, going_to}
@@ -66,7 +62,8 @@ use Rattle.mg_no_damage.proofs.BackKeyLemmas.{own_missing}
 use Rattle.mg_no_damage.proofs.NextLemmas.{change_stays, given_next}
 use Rattle.mg_no_damage.specs.Stands.{DamageStands}
 use Rattle.mg_no_damage.specs.BackKeys.{KeysMeetNoDamage, KeysMissNoPage}
-use Rattle.mg_no_damage.specs.BackRows.{RowsMeetNoDamage, ShowsStill}
+use Rattle.mg_no_damage.specs.BackRows.{RowsMeetNoDamage}
+use Rattle.mg_no_damage.specs.Batches.{ShowsSound}
 use Rattle.mg_no_damage.specs.BackTables.{MarksOverMeetNoDamage, SavepointsOverMeetNoDamage}
 
 -- ---- lists
@@ -85,7 +82,7 @@ other_first : (page : ℕ) (c : Kept) (rest : List Kept) → c.table ≢ page
     → others_of page (c ∷ rest) ≡ c ∷ others_of page rest
 other_first page c rest ne = rw (ne_eqb c.table page ne) refl
 
--- ---- the batch with the rows
+-- ---- the rows
 
 -- the catalog of the core is the one that the header says
 catalog_is : (table : Table) (page : ℕ) → IsCatalog table → table.pointer.0 ≡ page → catalog_table page ≡ table
@@ -96,31 +93,15 @@ catalog_is table page is at = λ i. record {
   indexes = sym is.none i;
 }
 
--- it has only read
-own_still : {D : Type 0} (m : Meaning D) (a b : Pool D FireLinks) (fills : Image → Changed → Type 0)
-    (refuses : Image → SpaceFault → Type 0) (it : Damaged) (image : Image) → Tells m a.disk image
-    → FailsOwn m a b fills refuses (faults.Damaged it) → ShowsStill m a b image
-own_still {D} m a b fills refuses it image tells (not_filled keeps alone told why) = record {
-  like = keeps.dirty;
-  same = keeps.geometry;
-  tells = tells_on m a b image keeps tells;
-}
-own_still {D} m a b fills refuses it image tells (not_changed batch ready keeps online filled fails) =
-    subst (λ (x : Pool D FireLinks). ShowsStill m a x image) (sym fails.same) (record {
-      like = keeps.dirty;
-      same = keeps.geometry;
-      tells = tells_on m a ready image keeps tells;
-    })
-
--- the rows of table after table
-tables_stay : {D : Type 0} {m : Meaning D} (t : ℕ) (keys : List Value) (old new : Core D) → TakesTables m t keys old new
+-- the rows, one after another
+rows_stay : {D : Type 0} {m : Meaning D} (t : ℕ) (keys : List Value) (old new : Core D) → TakesRows m t keys old new
     → new.damage ≡ old.damage
-tables_stay {D} t keys old new (no_table core) = refl
-tables_stay {D} t all old new (one_table key keys begun mid end takes more) =
-    tables_stay t (keys_without key (key ∷ keys)) mid end more ∙ ap (λ (c : Core D). c.damage) takes.same
+rows_stay {D} t keys old new (no_row core) = refl
+rows_stay {D} t all old new (one_row key keys begun mid end takes more) =
+    rows_stay t keys mid end more ∙ ap (λ (c : Core D). c.damage) takes.same
 
-module _ {D P : Type 0} (m : Meaning D) (known : KnownOfBacks D P m) (apart : GivenApart) (left_law : RowsAreLeft)
-    (tell : ListsTellWhole) (go_on : TablesGoOn D FireLinks m) (law : KeysMeetNoDamage D m)
+module _ {D P : Type 0} (m : Meaning D) (known : KnownOfBacks D P m) (apart : GivenApart)
+    (go_on : RowsGoOn D FireLinks m) (law : KeysMeetNoDamage D m)
     (missing : KeysMissNoPage D m) (rows_law : RowsMeetNoDamage D m) (old new : Core D) (t : TxNo)
     (core : IsCore m old) where
   module _ (point : Point) (begun : Core D) (undo : Undo) (has_begun : HasBegun old begun t.0 undo)
@@ -205,33 +186,42 @@ module _ {D P : Type 0} (m : Meaning D) (known : KnownOfBacks D P m) (apart : Gi
         takes = subst (λ (c : Core D). TakesChanges m t.0 c (others_of c.catalog.pointer.0 stops.given) stops.at)
             begun_is stops.takes
 
-    -- ---- it stops at the rows of a table
+    -- ---- it stops at a row of the catalog
 
-    module _ (mid : Core D) (end : Undo) (keys : List Value)
-        (rows : AreRowsToTake begun.catalog.pointer.0 (going_to undo point) keys)
-        (taken : TakesOthers m (not_asking t.0 begun) mid t.0 (going_to undo point) end)
-        (among : StopsAmong m t.0 keys refusal mid stopped) where
+    module _ (mid : Core D) (end : Undo) (taken : TakesOthers m (not_asking t.0 begun) mid t.0 (going_to undo point) end)
+        (among : StopsAmong m t.0 refusal mid stopped) where
       abbrev has_others : HasTakenKeys m old.store.geometry.size o h e t.0 whole whole (of_others firsts) (of_catalog firsts) s
           old.store old.store (shown old.store.dirty shows.image) shows.stands.shows shows.image
           (asked_in (with_work t.0 unasked old.works)) (sessions_in old.works) (begun_as old begun t.0) mid
-      has_others = has_taken m known apart left_law tell go_on old begun stopped t point undo refusal core has_begun
-          reaches mid end keys rows taken o h stands shows
+      has_others = has_taken m known apart go_on old begun stopped t point undo refusal core has_begun reaches mid end taken
+          o h stands shows
 
-      -- what had gone of the first tables
-      has_lost : (j : Image) × HasLost m mid.store.geometry.size o h e t.0 s old.store mid among.at has_others.image j
+      -- what had gone of the first rows
+      has_lost : (j : Image) × HasLost m mid.store.geometry.size o h t.0 s old.store mid among.at has_others.image j
           (asked_in (with_work t.0 unasked old.works)) (sessions_in old.works)
-      has_lost = lost_at m known apart left_law tell go_on old begun stopped t point undo refusal core has_begun reaches
-          mid end keys rows taken o h stands shows among.at among.first
+      has_lost = lost_at m known apart go_on old begun stopped t point undo refusal core has_begun reaches mid end taken
+          o h stands shows among.done among.at among.first
 
-      abbrev lost : HasLost m mid.store.geometry.size o h e t.0 s old.store mid among.at has_others.image has_lost.0
+      abbrev lost : HasLost m mid.store.geometry.size o h t.0 s old.store mid among.at has_others.image has_lost.0
           (asked_in (with_work t.0 unasked old.works)) (sessions_in old.works)
       lost = has_lost.1
 
-      kept_now : KeptIn packed_form among.at.store.geometry.size o (again t.0 lost.left (e ∷ h)) (said old.list)
-          (asked_in (with_work t.0 unasked old.works)) (sessions_in old.works) among.at.store has_lost.0
-      kept_now = subst (λ (n : ℕ). KeptIn packed_form n o (again t.0 lost.left (e ∷ h)) (said old.list)
-          (asked_in (with_work t.0 unasked old.works)) (sessions_in old.works) among.at.store has_lost.0)
-          (sym lost.size_is) lost.cache.kept
+      -- with the transaction dead the pages are sound
+      dead_now : IsKept packed_form among.at.store.geometry.size o (e ∷ h) (left_state nobody s.state)
+          (shown among.at.store.dirty has_lost.0) (shown among.at.store.dirty has_lost.0)
+      dead_now = dead_pool o h e point s (asked_in (with_work t.0 unasked old.works)) t.0 shows.stands.memory
+          (goes m known old begun t point undo core has_begun o h stands shows) packed_form among.at.store.geometry.size
+          among.at.store has_lost.0 (sessions_in old.works) []
+          (every_from m packed_form o (rolling t.0 ∷ h) among.at.store has_lost.0
+          (asked_in (with_work t.0 unasked old.works)) (sessions_in old.works) lost.knows.pool_is lost.knows.tells.held
+          lost.cache.lasts) nobody refl
+
+      shows_now : ShowsSound m among.at.store has_lost.0 (left_state nobody s.state) dead_now.of_pool dead_now.in_pool
+      shows_now = record {
+        tells = lost.knows.tells;
+        geometry = lost.knows.geometry;
+        sound = dead_now.pool_sound;
+      }
 
       same_at : among.at ≡ record old {
         waits = begun.waits;
@@ -240,40 +230,32 @@ module _ {D P : Type 0} (m : Meaning D) (known : KnownOfBacks D P m) (apart : Gi
       }
       same_at = lost.same ∙ ap (λ (c : Core D). record c { store = among.at.store }) has_others.same
 
-      fault_stays : (its : List Value) (fault : SpaceFault) → FailsRowsOut m among.at.store stopped.store (said old.list)
-          old.live t.0 old.catalog its fault → (shortages : ℕ)
+      fault_stays : (fault : SpaceFault) → FailsRowOut m among.at.store stopped.store (said old.list)
+          old.live t.0 old.catalog among.key fault → (shortages : ℕ)
           → CountsFault fault old.damage stopped.damage old.shortages shortages → stopped.damage ≡ old.damage
-      fault_stays its (faults.Full limit) fails shortages counts = counts.0
-      fault_stays its (faults.Damaged it) fails shortages counts = absurd (rows_law among.at.store stopped.store
-          has_lost.0 o (again t.0 lost.left (e ∷ h)) (said old.list) old.live t.0 old.catalog its
-          (asked_in (with_work t.0 unasked old.works)) (sessions_in old.works) has_begun.continues.1
+      fault_stays (faults.Full limit) fails shortages counts = counts.0
+      fault_stays (faults.Damaged it) fails shortages counts = absurd (rows_law among.at.store stopped.store has_lost.0
+          (left_state nobody s.state) dead_now.of_pool dead_now.in_pool shows_now (said old.list) old.live t.0 old.catalog
+          among.key
           (catalog_is old.catalog (header_of (shown among.at.store.dirty has_lost.0)).catalog.0 core.catalog
-          (has_others.catalog ∙ sym lost.lists.tips.catalog)) kept_now
-          (own_still m among.at.store stopped.store _ _ it has_lost.0 lost.knows.tells fails.own) it
-          (fails.damage it refl has_lost.0 lost.knows.tells))
-      fault_stays its (faults.Pool (pool_faults.DiskRead n)) fails shortages counts = counts.0
-      fault_stays its (faults.Pool (pool_faults.DiskWrite n)) fails shortages counts = counts.0
-      fault_stays its (faults.Pool (pool_faults.Offline n)) fails shortages counts = counts.0
-      fault_stays its (faults.Pool (pool_faults.Absent n)) fails shortages counts =
-          absurd (own_missing m among.at.store stopped.store _ _ n fails.own)
-      fault_stays its (faults.Pool pool_faults.Memory) fails shortages counts = counts.0
+          (has_others.catalog ∙ sym lost.tips.catalog)) it fails)
+      fault_stays (faults.Pool (pool_faults.DiskRead n)) fails shortages counts = counts.0
+      fault_stays (faults.Pool (pool_faults.DiskWrite n)) fails shortages counts = counts.0
+      fault_stays (faults.Pool (pool_faults.Offline n)) fails shortages counts = counts.0
+      fault_stays (faults.Pool (pool_faults.Absent n)) fails shortages counts =
+          absurd (own_missing m among.at.store stopped.store _ _ n fails)
+      fault_stays (faults.Pool pool_faults.Memory) fails shortages counts = counts.0
 
-      rows_stay : (stopped ≡ among.at) ⊎ ((its : List Value) × FailsTheRows m among.at stopped t.0 its refusal)
-          → stopped.damage ≡ old.damage
-      rows_stay (inl same) = ap (λ (c : Core D). c.damage) (same ∙ same_at)
-      rows_stay (inr (its, fails)) =
-          let there = subst (λ (c : Core D). FailsTheRows m c stopped t.0 its refusal) same_at fails in
-          fault_stays its there.fault there.fails stopped.shortages there.counts
+      row_stays : stopped.damage ≡ old.damage
+      row_stays =
+          let there = subst (λ (c : Core D). FailsTheRow m c stopped t.0 among.key refusal) same_at among.fails in
+          fault_stays there.fault there.fails stopped.shortages there.counts
 
-    both_stay : (keys : List Value) → AreRowsToTake begun.catalog.pointer.0 (going_to undo point) keys
-        → StopsBoth m (not_asking t.0 begun) stopped t.0 (going_to undo point) keys refusal
+    both_stay : (keys : List Value) → StopsBoth m (not_asking t.0 begun) stopped t.0 (going_to undo point) keys refusal
         → stopped.damage ≡ old.damage
-    both_stay keys rows (stops_at_other stops) = other_stays stops
-    both_stay keys rows (stops_at_rows mid end taken fails) =
-        let stood = taken_mid m known apart left_law tell go_on old begun stopped t point undo refusal core has_begun
-        reaches mid end keys rows taken in
-        let among = stops_among m t.0 refusal keys mid stopped stood.pool stood.on.online fails in
-        rows_stay mid end keys rows taken among among.cause
+    both_stay keys (stops_at_other stops) = other_stays stops
+    both_stay keys (stops_at_rows mid end taken fails) =
+        row_stays mid end taken (stops_among m t.0 refusal keys mid stopped fails)
 
   -- ---- each outcome
 
@@ -286,28 +268,28 @@ module _ {D P : Type 0} (m : Meaning D) (known : KnownOfBacks D P m) (apart : Gi
       given_up_stays begun new t.0 refusal gives ∙ ap (λ (c : Core D). c.damage) has_begun.ended.same
   over_fails point refusal (tables_not_taken begun undo has_begun reaches (tables_stopped keys stopped rows stops gives))
       o h stands told = given_up_stays stopped new t.0 refusal gives
-      ∙ both_stay point begun undo has_begun reaches stopped refusal o h stands keys rows stops
+      ∙ both_stay point begun undo has_begun reaches stopped refusal o h stands keys stops
 
   pub over_takes : (point : Point) → TakesTablesTo m old new t.0 point → new.damage ≡ old.damage
   over_takes point takes = ap (λ (c : Core D). c.damage) takes.takes.same
-      ∙ (tables_stay t.0 takes.takes.keys takes.takes.takes.mid takes.takes.taken takes.takes.takes.rows
+      ∙ (rows_stay t.0 takes.takes.keys takes.takes.takes.mid takes.takes.taken takes.takes.takes.rows
       ∙ (taken_stays m t.0 (not_asking t.0 takes.begun) takes.takes.takes.mid
       (others_of takes.begun.catalog.pointer.0 takes.takes.takes.others.given) takes.takes.takes.others.takes
       ∙ ap (λ (c : Core D). c.damage) takes.has_begun.ended.same))
 
 pub marks_over_meet_no_damage : {D P : Type 0} (m : Meaning D) → KnownOfBacks D P m → GivenApart
-    → RowsAreLeft → ListsTellWhole → TablesGoOn D FireLinks m → KeysMeetNoDamage D m → KeysMissNoPage D m → RowsMeetNoDamage D m → MarksOverMeetNoDamage D m
-marks_over_meet_no_damage m known apart left_law tell go_on law missing rows_law old new t (Ok x) core takes o h stands told =
-    over_takes m known apart left_law tell go_on law missing rows_law old new t core LastMark takes
-marks_over_meet_no_damage m known apart left_law tell go_on law missing rows_law old new t (Err refusal) core fails o h stands told =
-    over_fails m known apart left_law tell go_on law missing rows_law old new t core LastMark refusal fails o h stands told
+    → RowsGoOn D FireLinks m → KeysMeetNoDamage D m → KeysMissNoPage D m → RowsMeetNoDamage D m → MarksOverMeetNoDamage D m
+marks_over_meet_no_damage m known apart go_on law missing rows_law old new t (Ok x) core takes o h stands told =
+    over_takes m known apart go_on law missing rows_law old new t core LastMark takes
+marks_over_meet_no_damage m known apart go_on law missing rows_law old new t (Err refusal) core fails o h stands told =
+    over_fails m known apart go_on law missing rows_law old new t core LastMark refusal fails o h stands told
 
 pub savepoints_over_meet_no_damage : {D P : Type 0} (m : Meaning D) → KnownOfBacks D P m → GivenApart
-    → RowsAreLeft → ListsTellWhole → TablesGoOn D FireLinks m → KeysMeetNoDamage D m → KeysMissNoPage D m → RowsMeetNoDamage D m → SavepointsOverMeetNoDamage D m
-savepoints_over_meet_no_damage m known apart left_law tell go_on law missing rows_law old new t name (Ok true) core gone o h stands told =
-    over_takes m known apart left_law tell go_on law missing rows_law old new t core (SavepointNamed name) gone.1
-savepoints_over_meet_no_damage {D} m known apart left_law tell go_on law missing rows_law old new t name (Ok false) core gone o h stands
+    → RowsGoOn D FireLinks m → KeysMeetNoDamage D m → KeysMissNoPage D m → RowsMeetNoDamage D m → SavepointsOverMeetNoDamage D m
+savepoints_over_meet_no_damage m known apart go_on law missing rows_law old new t name (Ok true) core gone o h stands told =
+    over_takes m known apart go_on law missing rows_law old new t core (SavepointNamed name) gone.1
+savepoints_over_meet_no_damage {D} m known apart go_on law missing rows_law old new t name (Ok false) core gone o h stands
     told = ap (λ (c : Core D). c.damage) gone.2
-savepoints_over_meet_no_damage m known apart left_law tell go_on law missing rows_law old new t name (Err refusal) core fails o h stands
-    told = over_fails m known apart left_law tell go_on law missing rows_law old new t core (SavepointNamed name) refusal fails o h stands
+savepoints_over_meet_no_damage m known apart go_on law missing rows_law old new t name (Err refusal) core fails o h stands
+    told = over_fails m known apart go_on law missing rows_law old new t core (SavepointNamed name) refusal fails o h stands
     told

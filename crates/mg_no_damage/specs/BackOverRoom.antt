@@ -22,9 +22,8 @@ use Rattle.mg_records.specs.Room.{pages_of_row, records_back}
 use Rattle.mg_space.specs.Taking.{IsGeometry}
 use Rattle.mg_space.specs.declared.links.FireLinks.{FireLinks}
 use Rattle.mg_table_takings.specs.Keys.{others_of}
-use Rattle.mg_table_takings.specs.Takings.{FailsTables, FailsTablesTo, FailsTheRows, StopsBoth, StopsOthers, TakesBoth, TakesOthers, TakesTables, TakesTablesTo, later_table, no_table, one_table, rows_unknown, stops_at_other, stops_at_rows, tables_not_begun, tables_not_copied, tables_not_taken, tables_stopped, table_stands, table_unknown}
+use Rattle.mg_table_takings.specs.Takings.{FailsRows, FailsTablesTo, FailsTheRow, StopsBoth, StopsOthers, TakesBoth, TakesOthers, TakesRows, TakesTablesTo, later_row, no_row, one_row, row_stands, rows_unknown, stops_at_other, stops_at_rows, tables_not_begun, tables_not_copied, tables_not_taken, tables_stopped}
 use Rattle.mg_taking_back.specs.Taking.{Gives, HasBegun, MayReach, not_asking}
-use Rattle.mg_table_unmaking.specs.Tables.{keys_with, keys_without}
 use Rattle.mg_txlist.specs.TxList.{said}
 use Rattle.mg_undo.specs.Machine.{going_to}
 use Rattle.mg_undo.specs.Undo.{State as Undo, TakesBack as GivesAll, take_back}
@@ -39,7 +38,7 @@ use Rattle.mg_no_damage.specs.GivenCounts.{KnowsGiven, given_few, next_few}
 use Rattle.mg_no_damage.specs.FewPages.{CoreTakes}
 use Rattle.mg_no_damage.specs.FewPagesCalls.{MarksOverTakeFew, SavepointsOverTakeFew}
 use Rattle.mg_no_damage.specs.FewPagesLaws.{KnowsRoom}
-use Rattle.mg_free_pages.specs.RowsOutSpending.{failed_rows_out, rows_out_spend}
+use Rattle.mg_free_pages.specs.RowOutSpending.{failed_row_out, row_out_spend}
 use Rattle.mg_free_pages.specs.Spending.{SpendsAtMost}
 use Rattle.mg_free_pages.specs.SpendingLaws.{both_spend, more_spent, nothing_spent}
 
@@ -115,14 +114,14 @@ module _ {D : Type 0} (m : Meaning D) (knows : KnowsRoom m) where
       (omega (arith, few, all))
       (changes_spend m knows.holds knows.batches t begun mid (others_of begun.catalog.pointer.0 it.given) it.takes)
 
-  -- then the rows of the catalog, table by table, by which no page is taken
-  tables_spend : (t : ℕ) (keys : List Value) (old new : Core D) → TakesTables m t keys old new
+  -- then the rows of the catalog, one after another, by which no page is taken
+  rows_spend : (t : ℕ) (keys : List Value) (old new : Core D) → TakesRows m t keys old new
       → SpendsAtMost m old.store new.store 0
-  tables_spend t keys old new (no_table core) = nothing_spent m core.store core.store refl
-  tables_spend t all old new (one_table key keys begun mid end takes more) =
+  rows_spend t keys old new (no_row core) = nothing_spent m core.store core.store refl
+  rows_spend t all old new (one_row key keys begun mid end takes more) =
       both_spend m knows.holds begun.store mid.store end.store 0 0
-      (rows_out_spend m knows.holds knows.batches (said begun.list) begun.live t begun.catalog begun.store mid.store
-      (keys_with key (key ∷ keys)) takes.takes) (tables_spend t (keys_without key (key ∷ keys)) mid end more)
+      (row_out_spend m knows.holds knows.batches (said begun.list) begun.live t begun.catalog begun.store mid.store key
+      takes.takes) (rows_spend t keys mid end more)
 
   -- and so all
   all_spend : (begun taken : Core D) (t : ℕ) (start end : Undo) (keys : List Value) (most : ℕ) → GivesFew start most
@@ -131,7 +130,7 @@ module _ {D : Type 0} (m : Meaning D) (knows : KnowsRoom m) where
       more_spent m begun.store taken.store (2 * most + 0) (2 * most) (omega arith)
       (both_spend m knows.holds begun.store it.mid.store taken.store (2 * most) 0
       (others_spend begun it.mid t start end most gives it.others)
-      (tables_spend t keys it.mid taken it.rows))
+      (rows_spend t keys it.mid taken it.rows))
 
   -- ---- it stops
 
@@ -147,31 +146,27 @@ module _ {D : Type 0} (m : Meaning D) (knows : KnowsRoom m) where
       (stopping_takes m knows.holds knows.batches t begun stops.at stopped
       (others_of begun.catalog.pointer.0 stops.given) stops.change refusal lawful stops.takes stops.fails)
 
-  -- at the rows
-  rows_stop : (mid stopped : Core D) (t : ℕ) (keys : List Value) (refusal : Refusal) → IsGeometry mid.store.geometry
-      → FailsTheRows m mid stopped t keys refusal → TakesPages m mid stopped (Some refusal) 0
-  rows_stop mid stopped t keys refusal lawful fails =
-      let it = failed_rows_out m knows.holds knows.batches (said mid.list) mid.live t mid.catalog mid.store
-      stopped.store keys fails.fault fails.fails in record {
+  -- at a row
+  row_stop : (mid stopped : Core D) (t : ℕ) (key : Value) (refusal : Refusal) → IsGeometry mid.store.geometry
+      → FailsTheRow m mid stopped t key refusal → TakesPages m mid stopped (Some refusal) 0
+  row_stop mid stopped t key refusal lawful fails =
+      let it = failed_row_out m knows.holds knows.batches (said mid.list) mid.live t mid.catalog mid.store
+      stopped.store key fails.fault fails.fails in record {
         spends = it.0;
         enough = λ i shows limit full. let is = told_full fails.fault refusal limit fails.is (cc full) in
             it.1 lawful i shows.tells shows.regions shows.free is.0 is.1;
       }
 
-  -- want of memory is no want of pages, and no page was taken
-  tables_stop : (t : ℕ) (refusal : Refusal) (keys : List Value) (mid stopped : Core D) → IsGeometry mid.store.geometry
-      → FailsTables m t refusal keys mid stopped → TakesPages m mid stopped (Some refusal) 0
-  tables_stop t refusal its mid stopped lawful (table_unknown keys core is) = record {
-    spends = nothing_spent m core.store core.store refl;
-    enough = λ i shows limit full. memory_no_want refusal is limit (cc full);
-  }
-  tables_stop t refusal all mid stopped lawful (table_stands key keys begun end fails) =
-      rows_stop begun end t (keys_with key (key ∷ keys)) refusal lawful fails
-  tables_stop t refusal all mid stopped lawful (later_table key keys begun next end takes more) =
-      let spent = rows_out_spend m knows.holds knows.batches (said begun.list) begun.live t begun.catalog begun.store
-      next.store (keys_with key (key ∷ keys)) takes.takes in
+  -- no page was taken before
+  rows_stop : (t : ℕ) (refusal : Refusal) (keys : List Value) (mid stopped : Core D) → IsGeometry mid.store.geometry
+      → FailsRows m t refusal keys mid stopped → TakesPages m mid stopped (Some refusal) 0
+  rows_stop t refusal all mid stopped lawful (row_stands key keys begun end fails) =
+      row_stop begun end t key refusal lawful fails
+  rows_stop t refusal all mid stopped lawful (later_row key keys begun next end takes more) =
+      let spent = row_out_spend m knows.holds knows.batches (said begun.list) begun.live t begun.catalog begun.store
+      next.store key takes.takes in
       after_spent begun next end (Some refusal) 0 0 lawful spent
-      (tables_stop t refusal (keys_without key (key ∷ keys)) next end (subst IsGeometry (sym spent.geometry) lawful) more)
+      (rows_stop t refusal keys next end (subst IsGeometry (sym spent.geometry) lawful) more)
 
   both_stop : (begun stopped : Core D) (t : ℕ) (start : Undo) (keys : List Value) (refusal : Refusal) (most : ℕ)
       → GivesFew start most → IsGeometry begun.store.geometry → StopsBoth m begun stopped t start keys refusal
@@ -182,7 +177,7 @@ module _ {D : Type 0} (m : Meaning D) (knows : KnowsRoom m) where
       let spent = others_spend begun mid t start end most gives taken in
       more_pages begun stopped (Some refusal) (2 * most + 0) (2 * most) (omega arith)
       (after_spent begun mid stopped (Some refusal) (2 * most) 0 lawful spent
-      (tables_stop t refusal keys mid stopped (subst IsGeometry (sym spent.geometry) lawful) fails))
+      (rows_stop t refusal keys mid stopped (subst IsGeometry (sym spent.geometry) lawful) fails))
 
 -- ---- to a point
 

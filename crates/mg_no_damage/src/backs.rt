@@ -10,9 +10,8 @@ use crate::{
     sound_images_are_lawful, versions_go_out,
 };
 use mg_base::Disk;
-use mg_engine_changes::{backs_are_known, kept_tables_stand, lists_tell_whole, rows_are_given};
-use mg_engine_steps::tables_go_on;
-use mg_image::one_reading;
+use mg_engine_changes::{backs_are_known, kept_tables_stand, rows_are_given};
+use mg_engine_steps::rows_go_on;
 use mg_seek::{keys_are_those_of_the_history, records_are_those_of_every_reading};
 use mg_space::FireLinks;
 
@@ -39,16 +38,16 @@ pub fn backs_meet_no_damage<D: Disk>()
     keys_meet_no_damage::<D>();
 }
 
-/// Rows of the catalog are taken out in one batch.
+/// A row of the catalog is taken out in a batch of its own.
 pub fn rows_meet_no_damage<D: Disk>()
     ensures { RowsMeetNoDamage D D.meaning }
 {
-    one_reading();
     records_are_those_of_every_reading();
     sound_images_are_lawful();
     lawful_records_are_read::<D>();
     lawful_tables_are_read::<D>();
     versions_go_out::<D>();
+    records_change::<D>();
 }
 
 /// A transaction is taken back to a point, over tables that it has made.
@@ -58,8 +57,7 @@ pub fn backs_over_meet_no_damage<D: Disk>()
 {
     backs_are_known::<D, u32>();
     rows_are_given();
-    lists_tell_whole();
-    tables_go_on::<D, FireLinks>();
+    rows_go_on::<D, FireLinks>();
     keys_meet_no_damage::<D>();
     rows_meet_no_damage::<D>();
 }

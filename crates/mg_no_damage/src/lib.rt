@@ -84,8 +84,8 @@
 //! - In the middle of the way back the pages show what is not taken back yet (`StandsMidway`): the record that speaks for a
 //!   key that is still to be taken back is the one that spoke for it at first, and its newest version is the
 //!   transaction's own. So the key is found, and its version is taken out or replaced, without damage (`KeysMeetNoDamage`).
-//! - The rows of the catalog go table by table, those of each in one batch. With their maker dead the pages are sound after each of them, so the next
-//!   one is read and taken out as over a sound image (`RowsMeetNoDamage`).
+//! - The rows of the catalog go one by one, each in a batch of its own. With their maker dead the pages are sound before and
+//!   after each of them, so it is read and taken out as over a sound image (`RowsMeetNoDamage`).
 //! - So an engine takes a transaction back to its last mark or to a savepoint without damage, where no change since is of
 //!   the catalog (`MarksMeetNoDamage`, `SavepointsMeetNoDamage`), and over tables that it has made
 //!   (`MarksOverMeetNoDamage`, `SavepointsOverMeetNoDamage`).

@@ -1,4 +1,4 @@
 mod KeyLemmas
 mod OtherLemmas
 mod PointLemmas
-mod TableLemmas
+mod RowLemmas

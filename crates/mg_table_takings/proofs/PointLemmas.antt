@@ -19,9 +19,9 @@ use Rattle.mg_core.specs.Refusing.{CountsFault, IsRefusal, NamesLimit}
 use Rattle.mg_core.specs.declared.parts.Core.{Core}
 use Rattle.mg_taking_back.specs.Taking.{GivesUpBy, HasBegun, IsUndoOf, not_asking}
 use Rattle.mg_taking_back.specs.CoreLaws.{with_same}
-use Rattle.mg_table_unmaking.specs.Rows.{FailsRowsOut}
+use Rattle.mg_table_unmaking.specs.Rows.{FailsRowOut}
 use Rattle.mg_table_takings.specs.Keys.{AreRowsToTake}
-use Rattle.mg_table_takings.specs.Takings.{FailsTables, FailsTablesFrom, FailsTablesTo, FailsTheRows, StopsBoth, TakesBoth, TakesOthers, TakesTables, TakesTablesFrom, TakesTablesTo, rows_unknown, stops_at_rows, tables_not_copied, tables_not_taken, tables_stopped}
+use Rattle.mg_table_takings.specs.Takings.{FailsRows, FailsTablesFrom, FailsTablesTo, FailsTheRow, StopsBoth, TakesBoth, TakesOthers, TakesRows, TakesTablesFrom, TakesTablesTo, rows_unknown, stops_at_rows, tables_not_copied, tables_not_taken, tables_stopped}
 
 -- the same transactions have works
 pub left_same : (works set dropped now : List Working) (t : ℕ) (end : Undo) (keys : List Value)
@@ -39,15 +39,15 @@ left_same works set dropped now t end keys sets drops forgets u =
 -- ---- the rows
 
 -- a fault on the pages is told and counted
-pub fault_told : {D : Type 0} (m : Meaning D) (old new : Core D) (after : Pool D FireLinks) (t : ℕ) (keys : List Value)
-    (fault : SpaceFault) (refusal : Refusal) → FailsRowsOut m old.store after (said old.list) old.live t old.catalog keys fault
+pub fault_told : {D : Type 0} (m : Meaning D) (old new : Core D) (after : Pool D FireLinks) (t : ℕ) (key : Value)
+    (fault : SpaceFault) (refusal : Refusal) → FailsRowOut m old.store after (said old.list) old.live t old.catalog key fault
     → IsRefusal fault refusal → NamesLimit new.store.geometry.limit refusal
     → CountsFault fault old.damage new.damage old.shortages new.shortages
     → new ≡ record old { store = after; damage = new.damage; shortages = new.shortages }
-    → FailsTheRows m old new t keys refusal
-fault_told {D} m old new after t keys fault refusal fails is names counts same = record {
+    → FailsTheRow m old new t key refusal
+fault_told {D} m old new after t key fault refusal fails is names counts same = record {
   fault = fault;
-  fails = subst (λ (s : Pool D FireLinks). FailsRowsOut m old.store s (said old.list) old.live t old.catalog keys fault)
+  fails = subst (λ (s : Pool D FireLinks). FailsRowOut m old.store s (said old.list) old.live t old.catalog key fault)
       (sym stored) fails;
   is = is;
   names = names;
@@ -134,7 +134,7 @@ not_copied {D} m old begun new t point told continues ended is gives_up = tables
 
 pub both_by : {D : Type 0} (m : Meaning D) (old mid new : Core D) (t : ℕ) (start end : Undo) (keys : List Value)
     (result : Result (Unit {0}) Refusal) → TakesOthers m old mid t start end
-    → MatchResult result (λ _. TakesTables m t keys mid new) (λ refusal. FailsTables m t refusal keys mid new)
+    → MatchResult result (λ _. TakesRows m t keys mid new) (λ refusal. FailsRows m t refusal keys mid new)
     → MatchResult result (λ _. TakesBoth m old new t start end keys) (StopsBoth m old new t start keys)
 both_by m old mid new t start end keys (Ok x) others rows = record { mid = mid; others = others; rows = rows }
 both_by m old mid new t start end keys (Err refusal) others rows = stops_at_rows mid end others rows

@@ -1,12 +1,10 @@
 -- Which rows of the catalog are taken back.
 use Rattle.std.specs.Prelude.{◌≡◌, ◌==◌, ℕ, true, List, [], ◌∷◌, if◌then◌else◌}
 use Rattle.mg_value.specs.declared.value.Value.{Value}
-use Rattle.mg_table_unmaking.specs.Tables.{keys_with, keys_without}
 use Rattle.mg_undo.specs.Undo.{State as Undo, TakesBack}
 use Rattle.mg_undo.specs.Whole.{goes_whole}
 use Rattle.mg_undo.specs.declared.changes.Change.{Change}
 use Rattle.mg_undo.specs.declared.changes.Was.TheVariants.{Untouched}
-use Rattle.mg_table_takings.specs.declared.tables.Parted.{Parted}
 
 -- the keys of those changes that are of the table that begins at a page, in turn
 abbrev pub keys_of : ℕ → List Change → List Value
@@ -33,8 +31,3 @@ pub record AreKeysGiven (number : ℕ) (undo : Undo) (keys : List Value) : Type 
 pub record AreRowsToTake (catalog : ℕ) (undo : Undo) (keys : List Value) : Type 0 where
   pub given : AreKeysGiven catalog undo keys
   pub whole : goes_whole catalog keys undo.changes ≡ true
-
--- Keys are parted into those of the table that a key is of, and the others.
-pub record AreParted (of : Value) (keys : List Value) (parted : Parted) : Type 0 where
-  pub its : parted.its.items ≡ keys_with of keys
-  pub others : parted.others.items ≡ keys_without of keys

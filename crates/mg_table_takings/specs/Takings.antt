@@ -18,8 +18,7 @@ use Rattle.mg_core.specs.Events.{EndsWait, IsRefused}
 use Rattle.mg_core.specs.Refusing.{CountsFault, IsRefusal, NamesLimit}
 use Rattle.mg_taking_back.specs.Changes.{FailsChange}
 use Rattle.mg_taking_back.specs.Taking.{Gives, GivesUpBy, HasBegun, MayReach, TakesChanges, not_asking}
-use Rattle.mg_table_unmaking.specs.Rows.{FailsRowsOut, TakesRowsOut}
-use Rattle.mg_table_unmaking.specs.Tables.{keys_with, keys_without}
+use Rattle.mg_table_unmaking.specs.Rows.{FailsRowOut, TakesRowOut}
 use Rattle.mg_table_takings.specs.Keys.{AreRowsToTake, others_of}
 
 -- ---- the changes of other tables
@@ -45,48 +44,33 @@ pub record StopsOthers {D : Type 0} (m : Meaning D) (old new : Core D) (t : ℕ)
 
 -- ---- the rows of the catalog
 
--- The rows of a table are taken out in one batch; only the pages have changed.
-pub record TakesTheRows {D : Type 0} (m : Meaning D) (old new : Core D) (t : ℕ) (keys : List Value) : Type 0 where
-  pub takes : TakesRowsOut m old.store new.store (said old.list) old.live t old.catalog keys
+-- The row of a key is taken out in a batch of its own; only the pages have changed.
+pub record TakesTheRow {D : Type 0} (m : Meaning D) (old new : Core D) (t : ℕ) (key : Value) : Type 0 where
+  pub takes : TakesRowOut m old.store new.store (said old.list) old.live t old.catalog key
   pub same : new ≡ record old { store = new.store }
 
--- They are not, and the fault on the pages is told and counted.
-pub record FailsTheRows {D : Type 0} (m : Meaning D) (old new : Core D) (t : ℕ) (keys : List Value)
-    (refusal : Refusal) : Type 0 where
+-- It is not, and the fault on the pages is told and counted.
+pub record FailsTheRow {D : Type 0} (m : Meaning D) (old new : Core D) (t : ℕ) (key : Value) (refusal : Refusal)
+    : Type 0 where
   pub fault : SpaceFault
-  pub fails : FailsRowsOut m old.store new.store (said old.list) old.live t old.catalog keys fault
+  pub fails : FailsRowOut m old.store new.store (said old.list) old.live t old.catalog key fault
   pub is : IsRefusal fault refusal
   pub names : NamesLimit new.store.geometry.limit refusal
   pub counts : CountsFault fault old.damage new.damage old.shortages new.shortages
   pub same : new ≡ record old { store = new.store; damage = new.damage; shortages = new.shortages }
 
--- The rows of the table that a key is of are taken out, and these keys are those of the others.
-pub record TakesOneTable {D : Type 0} (m : Meaning D) (old new : Core D) (t : ℕ) (keys : List Value) (key : Value)
-    (others : List Value) : Type 0 where
-  pub takes : TakesTheRows m old new t (keys_with key keys)
-  pub left : others ≡ keys_without key keys
+-- the rows under these keys are taken out, one after another
+pub data TakesRows {D : Type 0} (m : Meaning D) (t : ℕ) : List Value → Core D → Core D → Type 0 where
+  no_row : (core : Core D) → TakesRows m t [] core core
+  one_row : (key : Value) (keys : List Value) (old mid new : Core D) → TakesTheRow m old mid t key
+      → TakesRows m t keys mid new → TakesRows m t (key ∷ keys) old new
 
--- They are not: which they are is not noted, for want of memory, or they stand.
-pub data FailsOneTable {D : Type 0} (m : Meaning D) (old new : Core D) (t : ℕ) (keys : List Value) (key : Value)
-    (refusal : Refusal) : Type 0 where
-  not_parted : refusal ≡ Memory → new ≡ old → FailsOneTable m old new t keys key refusal
-  not_out : FailsTheRows m old new t (keys_with key keys) refusal → FailsOneTable m old new t keys key refusal
-
--- The rows under these keys are taken out table by table, those of the first key's table first.
-pub data TakesTables {D : Type 0} (m : Meaning D) (t : ℕ) : List Value → Core D → Core D → Type 0 where
-  no_table : (core : Core D) → TakesTables m t [] core core
-  one_table : (key : Value) (keys : List Value) (old mid new : Core D)
-      → TakesTheRows m old mid t (keys_with key (key ∷ keys)) → TakesTables m t (keys_without key (key ∷ keys)) mid new
-      → TakesTables m t (key ∷ keys) old new
-
--- Those of some tables are, and then want of memory or a fault on the pages ends it: the rows of the next table stand.
-pub data FailsTables {D : Type 0} (m : Meaning D) (t : ℕ) (refusal : Refusal) : List Value → Core D → Core D → Type 0 where
-  table_unknown : (keys : List Value) (core : Core D) → refusal ≡ Memory → FailsTables m t refusal keys core core
-  table_stands : (key : Value) (keys : List Value) (old new : Core D)
-      → FailsTheRows m old new t (keys_with key (key ∷ keys)) refusal → FailsTables m t refusal (key ∷ keys) old new
-  later_table : (key : Value) (keys : List Value) (old mid new : Core D)
-      → TakesTheRows m old mid t (keys_with key (key ∷ keys))
-      → FailsTables m t refusal (keys_without key (key ∷ keys)) mid new → FailsTables m t refusal (key ∷ keys) old new
+-- some are, and then a fault on the pages ends it: the next row stands
+pub data FailsRows {D : Type 0} (m : Meaning D) (t : ℕ) (refusal : Refusal) : List Value → Core D → Core D → Type 0 where
+  row_stands : (key : Value) (keys : List Value) (old new : Core D) → FailsTheRow m old new t key refusal
+      → FailsRows m t refusal (key ∷ keys) old new
+  later_row : (key : Value) (keys : List Value) (old mid new : Core D) → TakesTheRow m old mid t key
+      → FailsRows m t refusal keys mid new → FailsRows m t refusal (key ∷ keys) old new
 
 -- ---- both
 
@@ -95,14 +79,14 @@ pub record TakesBoth {D : Type 0} (m : Meaning D) (old new : Core D) (t : ℕ) (
     : Type 0 where
   pub mid : Core D
   pub others : TakesOthers m old mid t start end
-  pub rows : TakesTables m t keys mid new
+  pub rows : TakesRows m t keys mid new
 
--- Or it stops at a change of another table, or at the rows of a table.
+-- Or it stops at a change of another table, or at a row of the catalog.
 pub data StopsBoth {D : Type 0} (m : Meaning D) (old new : Core D) (t : ℕ) (start : Undo) (keys : List Value)
     (refusal : Refusal) : Type 0 where
   stops_at_other : StopsOthers m old new t start refusal → StopsBoth m old new t start keys refusal
   stops_at_rows : (mid : Core D) (end : Undo) → TakesOthers m old mid t start end
-      → FailsTables m t refusal keys mid new → StopsBoth m old new t start keys refusal
+      → FailsRows m t refusal keys mid new → StopsBoth m old new t start keys refusal
 
 -- ---- to a point
 
@@ -112,8 +96,8 @@ abbrev pub works_left : ℕ → Undo → List Value → List Working → List Wo
 works_left t end keys works =
     with_work t without_tables (with_work t (without_written keys) (with_work t (with_undo end) works))
 
--- Once the event has begun: all is taken back that is given from some list on, the rows of the catalog last and those of
--- each table in one batch, and what is left of it is kept.
+-- Once the event has begun: all is taken back that is given from some list on, the rows of the catalog last, and what is
+-- left of it is kept.
 pub record TakesTablesFrom {D : Type 0} (m : Meaning D) (begun new : Core D) (t : ℕ) (start : Undo) : Type 0 where
   pub keys : List Value
   pub rows : AreRowsToTake begun.catalog.pointer.0 start keys

@@ -4,14 +4,15 @@
 //! `mg_taking_back` for a transaction that takes no table back. First it is found which rows of the catalog go, from a
 //! copy of what there is to take back: each was made by the transaction, and they are those of whole tables. Then the
 //! changes of all other tables are taken back, key by key, each in a batch of its own. Then the rows of the catalog are
-//! taken out, those of each table in a batch of their own, so that on no page there is half a table, and no two tables
-//! close a cycle of page writes. At last what the transaction has written into loses the tables that have gone.
+//! taken out, each in a batch of its own, which is lawful whatever pages the others stand on. At last what the transaction
+//! has written into loses the tables that have gone. Where a row is not taken out, a part of a table may be left, as a
+//! crash between two rows may leave it: then the transaction is given up, and a dead one's rows count for nobody.
 //!
 //! The pages of such a table stay used, and nothing names them any more. What was written into it is taken back before,
 //! so nobody asks for it by its first page.
 //!
 //! Invariant: that of `Core` (`IsCore`), which each call keeps.
-//! Below: `mg_taking_back`, for the changes of other tables and the giving up; `mg_table_unmaking`, for the batch;
+//! Below: `mg_taking_back`, for the changes of other tables and the giving up; `mg_table_unmaking`, for the batch of a row;
 //! `mg_undo`, which says what is given back and which keys are of whole tables. Above: the engine as a keeper of records.
 //! Not here: histories, and what crashes leave.
 #![tactic(auto)]
@@ -20,6 +21,5 @@ mod changes;
 mod keys;
 mod points;
 mod rows;
-mod tables;
 
 pub use points::{back_over_tables, undo_tables_to_mark};

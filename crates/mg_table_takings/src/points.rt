@@ -11,7 +11,7 @@ ghost use Rattle.mg_txlist.specs.TxList.{said};
 
 use crate::changes::take_others;
 use crate::keys::rows_to_take;
-use crate::rows::take_tables;
+use crate::rows::take_rows;
 use mg_base::{Disk, TxNo};
 use mg_core::Core;
 use mg_model::Refusal;
@@ -20,8 +20,8 @@ use mg_undo::Undo;
 use mg_value::{Key, Name};
 
 /// Takes a transaction back to its last mark, which ends, with the tables that it has made since: all that it has changed in
-/// other tables, the newest first, each key in a batch of its own, and then the rows of the catalog, those of each table in a
-/// batch of their own. Where no mark stands, nothing is taken back.
+/// other tables, the newest first, and then the rows of the catalog, each key in a batch of its own. Where no mark stands,
+/// nothing is taken back.
 ///
 /// The tables that were given to it are no longer known, those that have gone are no longer kept as written into, and its
 /// commit is no longer asked for.
@@ -144,7 +144,7 @@ fn take_with_rows<D: Disk>(
 ///
 /// # Errors
 ///
-/// As `take_others`, and as `take_tables`.
+/// As `take_others`, and as `take_rows`.
 fn take_both<D: Disk>(
     core: &mut Core<D>,
     t: TxNo,
@@ -161,7 +161,7 @@ fn take_both<D: Disk>(
         (StopsBoth D.meaning core.old core.new t.0 undo.old keys.now) }
 {
     match take_others(core, t, undo) {
-        Ok(()) => take_tables(core, t, keys),
+        Ok(()) => take_rows(core, t, keys),
         Err(refusal) => Err(refusal),
     }
 }

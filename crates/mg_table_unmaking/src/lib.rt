@@ -1,18 +1,19 @@
-//! Tables that a transaction has made are taken back on the pages: the rows of the catalog that say them are taken out, all
-//! in one batch.
+//! Tables that a transaction has made are taken back on the pages: the rows of the catalog that say them are taken out.
 //!
-//! Owns: that batch (`take_rows_out`). For each key the record is found that speaks for it, by the pages as the batch has
-//! them; its one version has to be the transaction's own; and it is taken out. So the catalog is never half a table's,
-//! whichever pages of the batch have reached the disk. The pages of the tables stay used, and nothing names them any more.
+//! Owns: the batch that takes one of them out (`take_row_out`). The record is found that speaks for its key; its one version
+//! has to be the transaction's own; and it is taken out. Such a batch changes two pages at most, the slot's and the cell's,
+//! and its orders close no cycle, so it can always be changed. Between the batches of a table's rows the catalog has a part of
+//! the table, of a transaction that counts as dead wherever a page of them stands: it ends with all of its rows gone, or is
+//! given up. The pages of the tables stay used, and nothing names them any more.
 //!
-//! Orders: those of each record that is taken out (`back_out` of mg_chain).
+//! Orders: those of the record that is taken out (`back_out` of mg_chain).
 //!
 //! Invariant: none, it keeps no state.
 //! Below: `mg_chain` for records, `mg_seek` for who speaks for a key, `mg_row_writes` for what a batch owes. Above: the way
-//! back to a point, which takes back the keys of all other tables first.
+//! back to a point, which takes back the keys of all other tables first, and then one row after another.
 //! Not here: which keys, that they are of whole tables, and what comes of histories and crashes (`mg_engine_steps`).
 #![tactic(auto)]
 
 mod rows;
 
-pub use rows::take_rows_out;
+pub use rows::take_row_out;

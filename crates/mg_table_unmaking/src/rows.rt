@@ -1,13 +1,13 @@
-//! Rows of the catalog are taken out in one batch.
+//! A row of the catalog is taken out in a batch of its own.
 
-ghost use Rattle.std.specs.Prelude.{◌≡◌, ◌≤◌, ◌<◌, ◌↔◌, IsTrue, MatchResult, None, OnOk, length};
+ghost use Rattle.std.specs.Prelude.{◌≡◌, ◌≤◌, ◌<◌, ◌↔◌, IsTrue, MatchResult, None, length};
 ghost use Rattle.mg_base.specs.Image.{Image};
 ghost use Rattle.mg_heap.specs.Reading.{ReadsData};
 ghost use Rattle.mg_pool.specs.Fault.{TellsFault};
 ghost use Rattle.mg_pool.specs.Pool.{IsPool};
 ghost use Rattle.mg_space.specs.Taking.{IsGeometry};
 ghost use Rattle.mg_space.specs.View.{AreWhole, KeepsStore, Tells, pool_answer, viewed};
-ghost use Rattle.mg_table_unmaking.specs.Rows.{FailsRowsOut, IsAlone, IsAloneAt, RefusesAloneAt, RefusesRow, RefusesRows, TakesRow, TakesRows, TakesRowsOut};
+ghost use Rattle.mg_table_unmaking.specs.Rows.{FailsRowOut, IsAlone, IsAloneAt, RefusesAloneAt, RefusesRow, TakesRow, TakesRowOut};
 
 use mg_base::{Disk, GREATEST_LIMIT, RecId, TxNo};
 use mg_chain::{States, back_out};
@@ -17,7 +17,7 @@ use mg_row_writes::change_batch;
 use mg_seek::{Placed, Wanted, first_version, speaker};
 use mg_snap::Live;
 use mg_space::{SpaceFault, Store};
-use mg_value::{Key, MOST_COLUMNS, Value};
+use mg_value::{MOST_COLUMNS, Value};
 
 /// Tells whether a newest version is the transaction's own, with none behind it.
 fn is_alone(newest: &Option<Placed>, t: TxNo) -> bool
@@ -102,76 +102,34 @@ fn take_row<D: Disk, S: States>(
     back_out(store, batch, rec)
 }
 
-/// Takes the rows of keys out of a table, one after another, in a batch.
-///
-/// # Errors
-///
-/// As `take_row`.
-fn take_rows<D: Disk, S: States>(
-    store: &mut Store<D>,
-    batch: &mut Batch,
-    table: &Table,
-    keys: &[Key],
-    states: &S,
-    live: &Live,
-    t: TxNo,
-) -> Result<(), SpaceFault>
-    requires pool { IsPool D.meaning store.old }
-    requires geometry { IsGeometry store.old.geometry }
-    requires online { store.old.offline ≡ None }
-    requires whole { AreWhole store.old.geometry.size batch.old.pages }
-    requires columns { length table.now.shape.columns ≤ MOST_COLUMNS }
-    requires pointer { table.now.pointer.0 < GREATEST_LIMIT }
-
-    ensures keeps { KeepsStore D.meaning store.old store.new }
-    ensures fault { TellsFault D.meaning store.old store.new (pool_answer result) }
-    ensures own { ReadsData result }
-    ensures takes { (image : Image) → Tells D.meaning store.old.disk image → MatchResult result
-        (λ _. TakesRows store.old image (S.state_of states.now) live.now t.0 table.now keys.now batch.old batch.new)
-        (λ fault. RefusesRows D.meaning store.new image (S.state_of states.now) live.now t.0 table.now fault keys.now
-        store.old batch.old) }
-{
-    let mut rest = keys;
-    while let Some((key, later)) = rest.split_first() {
-        take_row(store, batch, table, key.value(), states, live, t)?;
-        rest = later;
-    }
-    Ok(())
-}
-
-/// Takes the rows of keys out of a table, in one batch: each is the one version of the record that speaks for its key, and
-/// the transaction's own.
+/// Takes the row of a key out of a table, in a batch of its own: it is the one version of the record that speaks for the key,
+/// and the transaction's own.
 ///
 /// `table` is the catalog.
 ///
 /// # Errors
 ///
-/// As `take_rows`, and as the change of a batch. `Memory` also where the rows stand on more pages than a batch may change, or
-/// its orders would close a cycle: no page is damaged then.
-pub fn take_rows_out<D: Disk, S: States>(
+/// As `take_row`, and as `change_batch` of mg_row_writes.
+pub fn take_row_out<D: Disk, S: States>(
     store: &mut Store<D>,
     table: &Table,
-    keys: &[Key],
+    key: &Value,
     states: &S,
     live: &Live,
     t: TxNo,
 ) -> Result<(), SpaceFault>
     requires pool { IsPool D.meaning store.old }
     requires geometry { IsGeometry store.old.geometry }
-    requires online { store.old.offline ≡ None }
     requires columns { length table.now.shape.columns ≤ MOST_COLUMNS }
     requires pointer { table.now.pointer.0 < GREATEST_LIMIT }
 
     ensures pool { IsPool D.meaning store.new }
     ensures geometry { store.new.geometry ≡ store.old.geometry }
     ensures takes { MatchResult result
-        (λ _. TakesRowsOut D.meaning store.old store.new (S.state_of states.now) live.now t.0 table.now keys.now)
-        (FailsRowsOut D.meaning store.old store.new (S.state_of states.now) live.now t.0 table.now keys.now) }
+        (λ _. TakesRowOut D.meaning store.old store.new (S.state_of states.now) live.now t.0 table.now key.now)
+        (FailsRowOut D.meaning store.old store.new (S.state_of states.now) live.now t.0 table.now key.now) }
 {
     let mut batch = Batch::new(store.alloc());
-    take_rows(store, &mut batch, table, keys, states, live, t)?;
-    if !batch.is_lawful(store.geometry().size) {
-        return Err(SpaceFault::Pool(PoolFault::Memory));
-    }
+    take_row(store, &mut batch, table, key, states, live, t)?;
     change_batch(store, batch)
 }

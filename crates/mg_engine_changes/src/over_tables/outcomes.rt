@@ -3,9 +3,9 @@
 
 ghost use Rattle.mg_engine_changes.specs.OverOutcomes.{MarksGiveOver, RefusalsGiveOver, SavepointsGiveOver};
 
-use crate::{backs_are_known, engines_go_over, lists_tell_whole, rows_are_given};
+use crate::{backs_are_known, engines_go_over, rows_are_given};
 use mg_base::Disk;
-use mg_engine_steps::tables_go_on;
+use mg_engine_steps::rows_go_on;
 use mg_space::FireLinks;
 
 /// Whatever refuses such a call, the history machine has the event for it.
@@ -14,8 +14,7 @@ pub fn refusals_give_over<D: Disk, P>()
 {
     backs_are_known::<D, P>();
     rows_are_given();
-    lists_tell_whole();
-    tables_go_on::<D, FireLinks>();
+    rows_go_on::<D, FireLinks>();
 }
 
 /// A transaction is taken back to its last mark, or to its last savepoint of a name, or it is not.

@@ -6,7 +6,7 @@ ghost use Rattle.mg_engine_changes.specs.TablesWalks.{TablesWalksGoOn};
 
 use crate::row_walks_go_on;
 use mg_base::Disk;
-use mg_engine_steps::{left_tables_are_seen, tables_go_on};
+use mg_engine_steps::{left_tables_are_seen, rows_go_on};
 use mg_image_overlays::sound_images_stand_one_way;
 use mg_space::FireLinks;
 use mg_undo::the_list_follows_the_machine;
@@ -31,5 +31,5 @@ pub fn tables_walks_go_on()
 pub fn cores_take_rows<D: Disk>()
     ensures { CoresTakeRows D D.meaning }
 {
-    tables_go_on::<D, FireLinks>();
+    rows_go_on::<D, FireLinks>();
 }

@@ -105,7 +105,7 @@ pub fn keys_keep_pages<D: Disk, L: Links>()
     tables_keep_pages();
 }
 
-/// After some keys, and the rows of some tables, a step is refused, or a page write fails.
+/// After some keys, and some rows of the catalog, a step is refused, or a page write fails.
 pub fn stops_go_on<D: Disk, L: Links>()
     ensures given_up { StopsAreGivenUp D L D.meaning }
     ensures failed { WritesFailMidway D L D.meaning }

@@ -4,4 +4,4 @@ use Rattle.mg_demands.proofs.table_runs.runs_stay_linked.Goals as goal
 
 pub returns : goal.returns
 returns g c = runs_stay_linked g.row.D.Denot FireLinks g.D.Disk.meaning c.writes_keep_tables.ensures c.tables_bear.ensures.news
-    c.rows_pay.ensures.bears c.demands_are_borne.ensures.overlays
+    c.rows_bear.ensures c.demands_are_borne.ensures.overlays

@@ -5,7 +5,6 @@ pub returns : goal.returns
 returns g c = runs_stay_linked g.row.D.Denot g.D.Disk.meaning (record {
   writes = c.stores_keep.ensures.writes;
   changes = c.stores_keep.ensures.changes;
-  rows = c.takings_keep.ensures.rows;
   drawn = c.numbers_keep.ensures.drawn;
   committed = c.numbers_keep.ensures.committed;
   asked = c.fates_keep.ensures.asked;

@@ -1,7 +1,5 @@
-use Rattle.std.proofs.Common.{refl}
 use Rattle.mg_engine_steps.specs.RowsTakenLaws.{rows_are_taken}
 use Rattle.mg_engine_steps.proofs.batches.rows_are_taken.Goals as goal
 
 pub returns : goal.returns
-returns g c = rows_are_taken c.one_reading.ensures.packed_rows (λ page n is. is) refl
-    c.records_are_those_of_every_reading.ensures.speakers g.row.D.Denot g.row.L.Denot
+returns g c = rows_are_taken c.records_are_those_of_every_reading.ensures.speakers g.row.D.Denot g.row.L.Denot

@@ -5,9 +5,9 @@ use Rattle.mg_no_damage.proofs.backs.backs_over_meet_no_damage.Goals as goal
 pub returns : goal.returns
 returns g c = record {
   marks = marks_over_meet_no_damage {P = ℕ} g.D.Disk.meaning c.backs_are_known.ensures c.rows_are_given.ensures.apart
-      c.rows_are_given.ensures.left c.lists_tell_whole.ensures c.tables_go_on.ensures
-      c.keys_meet_no_damage.ensures.damage c.keys_meet_no_damage.ensures.pages c.rows_meet_no_damage.ensures;
-  savepoints = savepoints_over_meet_no_damage {P = ℕ} g.D.Disk.meaning c.backs_are_known.ensures
-      c.rows_are_given.ensures.apart c.rows_are_given.ensures.left c.lists_tell_whole.ensures c.tables_go_on.ensures c.keys_meet_no_damage.ensures.damage c.keys_meet_no_damage.ensures.pages
+      c.rows_go_on.ensures c.keys_meet_no_damage.ensures.damage c.keys_meet_no_damage.ensures.pages
       c.rows_meet_no_damage.ensures;
+  savepoints = savepoints_over_meet_no_damage {P = ℕ} g.D.Disk.meaning c.backs_are_known.ensures
+      c.rows_are_given.ensures.apart c.rows_go_on.ensures c.keys_meet_no_damage.ensures.damage
+      c.keys_meet_no_damage.ensures.pages c.rows_meet_no_damage.ensures;
 }

@@ -3,4 +3,4 @@ use Rattle.mg_engine_changes.proofs.over_tables.outcomes.refusals_give_over.Goal
 
 pub returns : goal.returns
 returns g c = refusals_give_over g.D.Disk.meaning c.backs_are_known.ensures c.rows_are_given.ensures.apart
-    c.rows_are_given.ensures.left c.lists_tell_whole.ensures c.tables_go_on.ensures
+    c.rows_go_on.ensures

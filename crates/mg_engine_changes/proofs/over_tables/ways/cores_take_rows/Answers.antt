@@ -2,4 +2,4 @@ use Rattle.mg_engine_changes.specs.CoreRowsLaws.{cores_take_rows}
 use Rattle.mg_engine_changes.proofs.over_tables.ways.cores_take_rows.Goals as goal
 
 pub returns : goal.returns
-returns g c = cores_take_rows g.D.Disk.meaning g.met.D.Disk.holds c.tables_go_on.ensures
+returns g c = cores_take_rows g.D.Disk.meaning g.met.D.Disk.holds c.rows_go_on.ensures

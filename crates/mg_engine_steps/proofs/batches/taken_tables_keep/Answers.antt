@@ -1,8 +1,0 @@
-use Rattle.std.proofs.Common.{refl}
-use Rattle.mg_image.specs.Form.{packed_form}
-use Rattle.mg_engine_steps.specs.OutsLaws.{taken_tables_keep}
-use Rattle.mg_engine_steps.proofs.batches.taken_tables_keep.Goals as goal
-
-pub returns : goal.returns
-returns g c = taken_tables_keep packed_form c.one_reading.ensures.packed_rows (λ page n is. is) refl g.row.D.Denot
-    g.row.L.Denot g.D.Disk.meaning

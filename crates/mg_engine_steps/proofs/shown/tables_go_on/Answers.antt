@@ -1,8 +1,0 @@
-use Rattle.std.proofs.Common.{refl}
-use Rattle.mg_engine_steps.specs.TablesBackLaws.{tables_go_on}
-use Rattle.mg_engine_steps.proofs.shown.tables_go_on.Goals as goal
-
-pub returns : goal.returns
-returns g c = tables_go_on g.row.D.Denot g.row.L.Denot g.D.Disk.meaning c.one_reading.ensures.packed_rows
-    (λ page n is. is) refl c.batches_last.ensures.still c.taken_tables_keep.ensures c.taken_tables_are_there.ensures
-    c.changed_tables_are_there.ensures.gone c.rows_are_taken.ensures
