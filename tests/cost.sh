@@ -133,6 +133,20 @@ both_ends() {
     fi
 }
 
+# So many tables of four columns, made in one transaction and taken back to a savepoint before them.
+taken_back() {
+    local who= begin='BEGIN;' end=';'
+    [ "$1" = ours ] && who='A: ' begin='SET TRANSACTION' end=
+    awk -v n="$2" -v who="$who" -v begin="$begin" -v end="$end" '
+        BEGIN {
+            print who begin
+            print who "SAVEPOINT S" end
+            for (i = 0; i < n; i++) print who "CREATE TABLE T" i " (ID BIGINT PRIMARY KEY, A BIGINT, B BIGINT, C BIGINT)" end
+            print who "ROLLBACK TO S" end
+            print who "COMMIT" end
+        }'
+}
+
 # By the clock, and of a processor.
 printf '%-52s %6s %8s %8s %8s %8s %8s\n' load page size mgdb cpu sqlite3 cpu
 for twice in 1 2; do
@@ -143,6 +157,7 @@ for twice in 1 2; do
     load 'an UPDATE of all rows (with the rows put in)' updated $((1000 * twice))
     load 'a DELETE of all rows (with the rows put in)' deleted $((1000 * twice))
     load 'rows of 64 columns put in, and a scan' wide $((500 * twice))
+    load 'tables made and taken back to a savepoint' taken_back $((16 * twice))
     load 'updates of one row under a held snapshot' updates $((2500 * twice))
     load 'the same, and reads of the newest version' both_ends $((2500 * twice))
     for page in 1024 16384; do
