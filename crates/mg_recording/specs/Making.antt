@@ -1,5 +1,5 @@
 -- The lines of a new table's rows.
-use Rattle.std.specs.Prelude.{ℕ, List, [], ◌∷◌, Result, Ok, Err}
+use Rattle.std.specs.Prelude.{◌≡◌, true, ℕ, List, [], ◌∷◌, Result, Ok, Err}
 use Rattle.mg_base.specs.declared.numbers.TxNo.{TxNo}
 use Rattle.mg_value.specs.declared.shape.Shape.{Shape}
 use Rattle.mg_model.specs.declared.answer.Answer.TheVariants.{Fine}
@@ -18,8 +18,9 @@ with_rows t table [] h = h
 with_rows t table (row ∷ rows) h = with_rows t table rows (entry (events.Insert t table row) Fine ∷ h)
 
 -- a trace that has a history comes to have it with the new rows
-abbrev pub NotesRows : Trace → Trace → TxNo → List ℕ → List Cells → Type 0
-NotesRows old new t table rows = (h : Entries) → Has old h → Has new (with_rows t table rows h)
+pub record NotesRows (old new : Trace) (t : TxNo) (table : List ℕ) (made : List Cells) : Type 0 where
+  pub whole : new.whole ≡ true → old.whole ≡ true
+  pub rows : (h : Entries) → Has old h → Has new (with_rows t table made h)
 
 -- the rows of a new table are noted; at one that was refused the trace stops
 abbrev pub NotesMade : Trace → Trace → TxNo → List ℕ → Shape → Result (Unit {0}) Refusal → Type 0

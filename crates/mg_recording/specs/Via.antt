@@ -1,19 +1,21 @@
--- What a keeper means that is seen through another value, which has its trace beside it.
+-- What a keeper means that is seen through another value, which knows something of its history.
 use Rattle.std.specs.Prelude.{ℕ, List, Option, Result, Ok, Err}
 use Rattle.mg_base.specs.declared.numbers.TxNo.{TxNo}
 use Rattle.mg_expr.specs.declared.expr.Expr.{Expr}
 use Rattle.mg_model.specs.declared.answer.Answer.TheVariants.{No, Rows}
 use Rattle.mg_model.specs.declared.event.Event.TheVariants as events
+use Rattle.mg_model.specs.declared.opening.Opening.{Opening}
 use Rattle.mg_model.specs.declared.refusal.Refusal.{Refusal}
 use Rattle.mg_model.specs.Changes.{Cells}
+use Rattle.mg_model.specs.History.{Entries}
 use Rattle.mg_records.specs.Meaning.{Means}
 use Rattle.mg_trace.specs.declared.trace.Trace.{Trace}
-use Rattle.mg_trace.specs.Putting.{AddsLine, Has}
+use Rattle.mg_trace.specs.Putting.{AddsLine}
 
--- A value means what a keeper in it means; where it stands for a history, its trace has this history.
-abbrev pub via : {R P T : Type 0} → Means R P → (T → R) → (T → Trace) → Means T P
-via m keeper trace = record {
-  stands = λ t o h. m.stands (keeper t) o h × Has (trace t) h;
+-- A value means what a keeper in it means; where it stands for a history, it knows this of it.
+abbrev pub via : {R P T : Type 0} → Means R P → (T → R) → (T → Opening → Entries → Type 0) → Means T P
+via m keeper knows = record {
+  stands = λ t o h. m.stands (keeper t) o h × knows t o h;
   table = λ t. m.table (keeper t);
   is_free = λ t. m.is_free (keeper t);
   works = λ t. m.works (keeper t);

@@ -9,13 +9,18 @@
 //! made, or, once it had to stop, of a beginning of them. It is made over a keeper that stands for a history
 //! without an entry.
 //!
-//! Where the trace stops: where memory for a line is short; at a CREATE TABLE that is refused, since no clause
-//! says at which of the catalog's rows that was; and at a taking back that is refused so that the transaction may
-//! be given up, since that depends on whether it was active. A call is answered the same then.
+//! Invariant (`Knows` of `specs/Knowing`): as long as the trace is whole, it knows the numbers of the active
+//! transactions. A taking back that is refused ends its transaction exactly where that was active, and no
+//! answer tells so.
+//!
+//! Where the trace stops: where memory for a line, or for the number of a new transaction, is short; and at a
+//! CREATE TABLE that is refused, since no clause says at which of the catalog's rows that was. A call is answered
+//! the same then.
 //! Below: `mg_records`, `mg_trace`. Above: what sessions on threads will share.
 //! Not here: the lines of an opening.
 #![tactic(auto)]
 
+mod active;
 mod answers;
 mod backs;
 mod making;

@@ -1,9 +1,12 @@
 //! The keeper that records.
 
-ghost use Rattle.std.specs.Prelude.{◌≡◌, []};
+ghost use Rattle.std.specs.Prelude.{◌≡◌, ◌≢◌, ℕ, []};
+ghost use Rattle.mg_base.specs.declared.transaction.TxState.TheVariants as states;
 ghost use Rattle.mg_model.specs.declared.opening.Opening.{Opening};
+ghost use Rattle.mg_model.specs.Machine.{opening_state};
 
-use crate::answers::{fine_answer, note_found, note_write, number_answer};
+use crate::active::{Active, note_begun, note_ended};
+use crate::answers::{fine_answer, note_found, note_write};
 use crate::backs::{note_gone_back, note_undone};
 use crate::making::note_table;
 use mg_base::{Memory, TxNo};
@@ -19,30 +22,34 @@ use std::alloc::Global;
 pub struct Recording<R> {
     pub keeper: R,
     pub trace: Trace,
+    /// The numbers of the transactions that are active, as long as the trace is whole.
+    active: Active,
 }
 
 impl<R: Records> Recording<R> {
     /// The keeper that records from here on. It takes no memory. Where the one below stands for a history without
-    /// an entry, so does it.
+    /// an entry, in whose opening no transaction is active, so does it.
     pub fn new(alloc: Global, keeper: R) -> Recording<R>
         ensures keeper { result.keeper ≡ keeper }
-        ensures stands { (o : Opening) → R.meaning.stands keeper o []
+        ensures stands { (o : Opening) → ((t : ℕ) → opening_state o t ≢ states.Active) → R.meaning.stands keeper o []
             → ⟦<Recording<R> as Records>⟧.meaning.stands result o [] }
     {
         Recording {
             keeper,
             trace: Trace::new(alloc),
+            active: Active::new(alloc),
         }
     }
 }
 
 impl<R: Records> Records for Recording<R> {
+    ghost use Rattle.mg_recording.specs.Knowing.{Knows};
     ghost use Rattle.mg_recording.specs.Via.{via};
     ghost use Rattle.mg_recording.specs.ViaLaws.{crashes_via, few_via, lasts_via, one_via, seen_via, whole_via};
 
     type Place = R::Place;
 
-    ghost meaning = { via R.meaning (λ t. t.keeper) (λ t. t.trace) };
+    ghost meaning = { via R.meaning (λ t. t.keeper) (λ t o h. Knows t.trace t.active o h) };
 
     fn copy_place(alloc: Global, place: &R::Place) -> Result<R::Place, Memory> {
         R::copy_place(alloc, place)
@@ -50,8 +57,7 @@ impl<R: Records> Records for Recording<R> {
 
     fn begin(&mut self, session: u8, mode: Mode) -> Result<TxNo, Refusal> {
         let result = self.keeper.begin(session, mode);
-        self.trace
-            .note_begin(session, mode, &number_answer(&result));
+        note_begun(&mut self.trace, &mut self.active, session, mode, &result);
         result
     }
 
@@ -112,7 +118,7 @@ impl<R: Records> Records for Recording<R> {
 
     fn undo_mark(&mut self, t: TxNo) -> Result<(), Refusal> {
         let result = self.keeper.undo_mark(t);
-        note_undone(&mut self.trace, t, &result);
+        note_undone(&mut self.trace, &mut self.active, t, &result);
         result
     }
 
@@ -124,7 +130,7 @@ impl<R: Records> Records for Recording<R> {
 
     fn back_to(&mut self, t: TxNo, name: &Name) -> Result<bool, Refusal> {
         let result = self.keeper.back_to(t, name);
-        note_gone_back(&mut self.trace, t, name, &result);
+        note_gone_back(&mut self.trace, &mut self.active, t, name, &result);
         result
     }
 
@@ -139,24 +145,26 @@ impl<R: Records> Records for Recording<R> {
     fn commit_end(&mut self, t: TxNo) -> Result<(), Refusal> {
         let result = self.keeper.commit_end(t);
         self.trace.note_commit(t, &fine_answer(&result));
+        note_ended(&mut self.active, t, &result);
         result
     }
 
     fn rollback(&mut self, t: TxNo) -> Result<(), Refusal> {
         let result = self.keeper.rollback(t);
         self.trace.note_rollback(t, &fine_answer(&result));
+        note_ended(&mut self.active, t, &result);
         result
     }
 
-    ghost seen = { seen_via R.meaning (λ t. t.keeper) (λ t. t.trace) R.seen };
+    ghost seen = { seen_via R.meaning (λ t. t.keeper) (λ t o h. Knows t.trace t.active o h) R.seen };
 
-    ghost whole = { whole_via R.meaning (λ t. t.keeper) (λ t. t.trace) R.whole };
+    ghost whole = { whole_via R.meaning (λ t. t.keeper) (λ t o h. Knows t.trace t.active o h) R.whole };
 
-    ghost few = { few_via R.meaning (λ t. t.keeper) (λ t. t.trace) R.few };
+    ghost few = { few_via R.meaning (λ t. t.keeper) (λ t o h. Knows t.trace t.active o h) R.few };
 
-    ghost crashes = { crashes_via R.meaning (λ t. t.keeper) (λ t. t.trace) R.crashes };
+    ghost crashes = { crashes_via R.meaning (λ t. t.keeper) (λ t o h. Knows t.trace t.active o h) R.crashes };
 
-    ghost lasts = { lasts_via R.meaning (λ t. t.keeper) (λ t. t.trace) R.lasts };
+    ghost lasts = { lasts_via R.meaning (λ t. t.keeper) (λ t o h. Knows t.trace t.active o h) R.lasts };
 
-    ghost one = { one_via R.meaning (λ t. t.keeper) (λ t. t.trace) R.one };
+    ghost one = { one_via R.meaning (λ t. t.keeper) (λ t o h. Knows t.trace t.active o h) R.one };
 }

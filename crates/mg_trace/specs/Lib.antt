@@ -1,3 +1,4 @@
+pub mod Openings
 pub mod Putting
 pub mod PuttingLaws
 pub mod Text

@@ -116,7 +116,7 @@ impl Trace {
     }
 
     /// Puts the values of a row.
-    fn values(&mut self, values: &[Value])
+    pub(crate) fn values(&mut self, values: &[Value])
         ensures { Puts self.old self.new (joined values.now) }
     {
         if self.whole {

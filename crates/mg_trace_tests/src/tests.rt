@@ -2,3 +2,5 @@
 
 mod events;
 mod filters;
+mod opening;
+mod recording;

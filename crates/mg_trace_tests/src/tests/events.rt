@@ -47,7 +47,7 @@ pub(super) fn name(rt: &impl Abort, bytes: &[u8]) -> Name {
     }
 }
 
-fn key(rt: &impl Abort, value: Value) -> Key {
+pub(super) fn key(rt: &impl Abort, value: Value) -> Key {
     match Key::new(value) {
         Some(key) => key,
         None => panic!(rt; "no key"),
@@ -58,7 +58,7 @@ pub(super) fn text(alloc: Global, bytes: &[u8]) -> Result<Txt, Fail> {
     Ok(Txt::of_bytes(bytes.to_vec(alloc)?))
 }
 
-fn row(alloc: Global, first: Value, second: Value) -> Result<Row, Fail> {
+pub(super) fn row(alloc: Global, first: Value, second: Value) -> Result<Row, Fail> {
     Ok(Row::new(vec![in alloc; first, second]?))
 }
 

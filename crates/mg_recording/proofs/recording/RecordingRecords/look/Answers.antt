@@ -1,8 +1,12 @@
+use Rattle.mg_model.specs.declared.event.Event.TheVariants as events
+use Rattle.std.proofs.Common.{refl}
+use Rattle.mg_recording.specs.ActiveLaws.{kept_or}
 use Rattle.mg_recording.specs.declared.recording.Recording.{Recording}
-use Rattle.mg_recording.specs.ViaLaws.{adds_via}
+use Rattle.mg_recording.specs.ViaLaws.{adds_quiet}
 use Rattle.mg_recording.proofs.recording.RecordingRecords.look.Goals as goal
 
 pub returns-clause-adds : goal.returns-clause-adds
 returns-clause-adds g c =
-    adds_via g.R.Records.meaning (λ (t : Recording g.row.R.Denot). t.keeper) (λ t. t.trace) c.args.self.now
-    (record { keeper = c.look-result.new.self; trace = c.note_look.new.self }) _ _ _ c.fine_answer.ensures c.look-result.ensures.adds c.note_look.ensures
+    adds_quiet g.R.Records.meaning (λ (t : Recording g.row.R.Denot). t.keeper) (λ t. t.trace) (λ t. t.active)
+    c.args.self.now (record { keeper = c.look-result.new.self; trace = c.note_look.new.self; active = c.args.self.now.active })
+    _ _ _ c.fine_answer.ensures refl (kept_or (events.Look c.args.t) c.look-result.result refl) c.look-result.ensures.adds c.note_look.ensures

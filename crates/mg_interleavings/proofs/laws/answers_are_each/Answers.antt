@@ -1,0 +1,5 @@
+use Rattle.mg_interleavings.specs.AnswerLaws.{interleaved_keeps}
+use Rattle.mg_interleavings.proofs.laws.answers_are_each.Goals as goal
+
+pub returns : goal.returns
+returns c = λ o size scripts standing h all. (interleaved_keeps all).each

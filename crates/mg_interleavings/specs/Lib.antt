@@ -1,0 +1,10 @@
+pub mod AnswerLaws
+pub mod GivingUp
+pub mod GivingUpLaws
+pub mod HistoryLaws
+pub mod Interleavings
+pub mod Keeping
+pub mod KeepingLaws
+pub mod PlaceLaws
+pub mod Standings
+pub mod Texts

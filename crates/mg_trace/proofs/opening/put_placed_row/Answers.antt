@@ -1,0 +1,7 @@
+use Rattle.mg_trace.specs.PuttingLaws.{puts_both}
+use Rattle.mg_trace.proofs.opening.put_placed_row.Goals as goal
+
+pub returns : goal.returns
+returns c =
+    puts_both _ _ _ _ _ c.word.ensures
+    (puts_both _ _ _ _ _ c.name.ensures (puts_both _ _ _ _ _ c.put_bare.ensures c.word-2.ensures))
