@@ -22,7 +22,7 @@ use Rattle.mg_interleavings.specs.Standings.{Scripts, Standing}
 use Rattle.mg_interleavings.specs.Interleavings.{Interleaves, TimesOut, begins, begins_one, declines, given_up, goes_on, passes, starts, steps, taken_back, times_out, tries_again}
 
 -- a step as one of at most one step
-one_of : {o : Opening} {t : TxNo} {h : Entries} (comes : Comes) → Takes o t 0 h comes h comes
+pub one_of : {o : Opening} {t : TxNo} {h : Entries} (comes : Comes) → Takes o t 0 h comes h comes
 one_of (Later course) = enough_now course
 one_of (Parks on course) = waits_then on course
 one_of (Ends reply) = ends_then reply
@@ -74,16 +74,16 @@ InterleavingsAreLegal = (o : Opening) (size : ℕ) (scripts : Scripts) (standing
 pub interleaved_legal : {o : Opening} {size : ℕ} {scripts : Scripts} {standing : Standing} {h : Entries}
     → Interleaves o size scripts standing h → IsLegal o h
 interleaved_legal begins = tt
-interleaved_legal (passes standing h session all at free) = interleaved_legal all
-interleaved_legal (declines standing h session text fault all at free why) = interleaved_legal all
-interleaved_legal (begins_one standing h session text read_only wait snapshot answer all at free parses none lawful) =
+interleaved_legal (passes standing h session all flows at free) = interleaved_legal all
+interleaved_legal (declines standing h session text fault all flows at free why) = interleaved_legal all
+interleaved_legal (begins_one standing h session text read_only wait snapshot answer all flows at free parses none lawful) =
     (lawful, interleaved_legal all)
-interleaved_legal (starts standing h after session text t s comes all at its start) =
+interleaved_legal (starts standing h after session text t s comes all flows at its start) =
     starts_legal start (interleaved_legal all)
-interleaved_legal (steps standing h after u others comes all among free step) = step_legal step (interleaved_legal all)
-interleaved_legal (goes_on standing h after u others comes all among over step) =
+interleaved_legal (steps standing h after u others comes all flows among free step) = step_legal step (interleaved_legal all)
+interleaved_legal (goes_on standing h after u others comes all flows among over step) =
     step_legal step (interleaved_legal all)
-interleaved_legal (tries_again standing h after u others on comes all among waits live step other) =
+interleaved_legal (tries_again standing h after u others on comes all flows among waits live step other) =
     step_legal step (interleaved_legal all)
-interleaved_legal (times_out standing h mid after u others on comes answer all among waits live step same out) =
+interleaved_legal (times_out standing h mid after u others on comes answer all flows among waits live step same out) =
     out_legal out (step_legal step (interleaved_legal all))

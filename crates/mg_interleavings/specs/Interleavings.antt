@@ -41,22 +41,23 @@ pub data TimesOut (o : Opening) (h : Entries) (t on : TxNo) : Entries → Answer
       → TimesOut o h t on (after_refusal o h t (events.UndoMark t) later) (Replied (replies.No (Engine later)))
 
 -- Sessions have come so far, and this is the history of what they did: one session after another makes a step, in any
--- order. None takes a line while a statement of it has begun that is not at its end.
+-- order. None takes a line while a statement of it has begun that is not at its end, and behind an answer by which the
+-- run stops no step is made.
 pub data Interleaves (o : Opening) (size : ℕ) (scripts : Scripts) : Standing → Entries → Type 0 where
   begins : Interleaves o size scripts (at_start scripts) []
   -- ---- a line
   -- it prints nothing
-  passes : (standing : Standing) (h : Entries) (session : Session) → Interleaves o size scripts standing h
+  passes : (standing : Standing) (h : Entries) (session : Session) → Interleaves o size scripts standing h → standing.stopped ≡ false
       → IsAt scripts standing session kinds.Silent → is_busy session standing.pending ≡ false
       → Interleaves o size scripts (passed standing session) h
   -- it gives no event
   declines : (standing : Standing) (h : Entries) (session : Session) (text : List ℕ) (fault : StatementFault)
-      → Interleaves o size scripts standing h → IsAt scripts standing session (kinds.Sql session text)
+      → Interleaves o size scripts standing h → standing.stopped ≡ false → IsAt scripts standing session (kinds.Sql session text)
       → is_busy session standing.pending ≡ false → Declines o h standing.pending session text fault
       → Interleaves o size scripts (answered standing session (Replied (replies.No fault))) h
   -- it begins a transaction
   begins_one : (standing : Standing) (h : Entries) (session : Session) (text : List ℕ) (read_only wait snapshot : Bool)
-      (answer : Answer) → Interleaves o size scripts standing h
+      (answer : Answer) → Interleaves o size scripts standing h → standing.stopped ≡ false
       → IsAt scripts standing session (kinds.Sql session text) → is_busy session standing.pending ≡ false
       → Parses text (SetTransaction read_only wait snapshot) → transaction_of o h session.0 ≡ None
       → IsLawful o h (entry (events.Begin session.0 (mode_with read_only wait snapshot)) answer)
@@ -64,30 +65,30 @@ pub data Interleaves (o : Opening) (size : ℕ) (scripts : Scripts) : Standing �
       (entry (events.Begin session.0 (mode_with read_only wait snapshot)) answer ∷ h)
   -- its statement begins
   starts : (standing : Standing) (h after : Entries) (session : Session) (text : List ℕ) (t : TxNo) (s : Plain)
-      (comes : Comes) → Interleaves o size scripts standing h
+      (comes : Comes) → Interleaves o size scripts standing h → standing.stopped ≡ false
       → IsAt scripts standing session (kinds.Sql session text) → IsFor o h standing.pending session text t s
       → Starts o h t size s after comes
       → Interleaves o size scripts (came_to standing standing.pending session t comes) after
   -- ---- a statement that has begun
   -- it takes a step
   steps : (standing : Standing) (h after : Entries) (u : Unfinished) (others : List Unfinished) (comes : Comes)
-      → Interleaves o size scripts standing h → StandsAmong standing.pending u others → u.waits_on ≡ None
+      → Interleaves o size scripts standing h → standing.stopped ≡ false → StandsAmong standing.pending u others → u.waits_on ≡ None
       → Steps o h u.transaction u.course after comes
       → Interleaves o size scripts (came_to standing others u.session u.transaction comes) after
   -- what it waited for is over, and it takes a step
   goes_on : (standing : Standing) (h after : Entries) (u : Unfinished) (others : List Unfinished) (comes : Comes)
-      → Interleaves o size scripts standing h → StandsAmong standing.pending u others
+      → Interleaves o size scripts standing h → standing.stopped ≡ false → StandsAmong standing.pending u others
       → is_over o h u.waits_on ≡ true → Steps o h u.transaction u.course after comes
       → Interleaves o size scripts (came_to standing others u.session u.transaction comes) after
   -- it is not, and the statement, tried once more, does not come to wait for it again
   tries_again : (standing : Standing) (h after : Entries) (u : Unfinished) (others : List Unfinished) (on : TxNo)
-      (comes : Comes) → Interleaves o size scripts standing h → StandsAmong standing.pending u others
+      (comes : Comes) → Interleaves o size scripts standing h → standing.stopped ≡ false → StandsAmong standing.pending u others
       → u.waits_on ≡ Some on → is_active (state_of o h on.0) ≡ true
       → Steps o h u.transaction u.course after comes → waits_for on comes ≡ false
       → Interleaves o size scripts (came_to standing others u.session u.transaction comes) after
   -- or it does, and has waited too long
   times_out : (standing : Standing) (h mid after : Entries) (u : Unfinished) (others : List Unfinished) (on : TxNo)
-      (comes : Comes) (answer : Answered) → Interleaves o size scripts standing h
+      (comes : Comes) (answer : Answered) → Interleaves o size scripts standing h → standing.stopped ≡ false
       → StandsAmong standing.pending u others → u.waits_on ≡ Some on → is_active (state_of o h on.0) ≡ true
       → Steps o h u.transaction u.course mid comes → waits_for on comes ≡ true
       → TimesOut o mid u.transaction on after answer

@@ -56,14 +56,14 @@ said_next (l ∷ lines) (suc place) line is =
 differ : (a b : ℕ) → (a == b) ≡ false → a ≢ b
 differ a b apart is = absurd (true≢false (sym (eq-eqb a b is) ∙ apart))
 
-apart_turned : (a b : ℕ) → (a == b) ≡ false → (b == a) ≡ false
+pub apart_turned : (a b : ℕ) → (a == b) ≡ false → (b == a) ≡ false
 apart_turned a b apart = at (b == a) refl
   where
     at : (is : Bool) → (b == a) ≡ is → is ≡ false
     at true is = absurd (differ a b apart (sym (eqb-true b a is)))
     at false is = refl
 
-neither : (a b : Bool) → (a || b) ≡ false → (a ≡ false) × (b ≡ false)
+pub neither : (a b : Bool) → (a || b) ≡ false → (a ≡ false) × (b ≡ false)
 neither true b is = absurd cc
 neither false b is = (refl, is)
 

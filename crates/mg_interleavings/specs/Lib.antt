@@ -5,6 +5,7 @@ pub mod HistoryLaws
 pub mod Interleavings
 pub mod Keeping
 pub mod KeepingLaws
+pub mod OwnLaws
 pub mod PlaceLaws
 pub mod Standings
 pub mod Texts

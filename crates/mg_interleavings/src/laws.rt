@@ -2,6 +2,7 @@
 
 ghost use Rattle.mg_interleavings.specs.AnswerLaws.{AnswersAreEach, BegunAreNext};
 ghost use Rattle.mg_interleavings.specs.HistoryLaws.{InterleavingsAreLegal};
+ghost use Rattle.mg_interleavings.specs.OwnLaws.{BegunAreOwn};
 ghost use Rattle.mg_interleavings.specs.PlaceLaws.{PlacesAreWithin};
 
 /// The history is legal: each answer in it is the machine's, or comes from outside.
@@ -22,4 +23,9 @@ pub fn answers_are_each()
 /// A statement that has begun is that of its session's next line, and no session has two.
 pub fn begun_are_next()
     ensures { BegunAreNext }
+{}
+
+/// A statement that has begun is of the transaction that its session began last.
+pub fn begun_are_own()
+    ensures { BegunAreOwn }
 {}

@@ -25,4 +25,6 @@ mod laws;
 pub use answered::Answered;
 pub use answering::answered_text;
 pub use giving_up::give_up;
-pub use laws::{answers_are_each, begun_are_next, histories_are_legal, places_are_within};
+pub use laws::{
+    answers_are_each, begun_are_next, begun_are_own, histories_are_legal, places_are_within,
+};
