@@ -10,3 +10,4 @@ mod TurnLemmas
 mod PushLemmas
 mod MakeLemmas
 mod SpellingLemmas
+mod DropLemmas

@@ -6,3 +6,4 @@ pub mod Orders
 pub mod Lists
 pub mod Writing
 pub mod WritingRefusals
+pub mod Dropping

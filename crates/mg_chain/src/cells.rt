@@ -10,6 +10,7 @@ ghost use Rattle.mg_pool.specs.Pool.{IsPool};
 ghost use Rattle.mg_slots.specs.declared.page.TheConstants.{GREATEST_SIZE};
 ghost use Rattle.mg_space.specs.Taking.{IsGeometry};
 ghost use Rattle.mg_space.specs.View.{AreWhole, KeepsStore, Tells, pool_answer, viewed};
+ghost use Rattle.mg_version.specs.Cells.{IsCell, IsVersion};
 ghost use Rattle.mg_chain.specs.Chains.{Meets, newest_link as link_of};
 ghost use Rattle.mg_chain.specs.Refusals.{HasShortBody, IsOfOther, RefusesBytes, RefusesCellAt, RefusesVersion, damage, writer_in as writer_of};
 
@@ -26,6 +27,7 @@ fn cell_of_bytes(alloc: Global, page: PageNo, bytes: &[u8]) -> Result<Cell, Spac
     requires { length bytes.now ≤ GREATEST_SIZE }
     ensures spelled { IfOk result (λ cell. cell ≡ cell_spelled bytes.now) }
     ensures short { IfOk result HasShortBody }
+    ensures lawful { IfOk result IsCell }
     ensures refusal { IfErr result (RefusesBytes page.0 bytes.now) }
 {
     match read_cell(alloc, bytes) {
@@ -51,6 +53,7 @@ pub(crate) fn cell_at<D: Disk>(
     ensures fault { TellsFault D.meaning store.old store.new (pool_answer result) }
     ensures own { ReadsData result }
     ensures short { IfOk result (λ found. IfSome found HasShortBody) }
+    ensures lawful { IfOk result (λ found. IfSome found IsCell) }
     ensures gives { (image : Image) → Tells D.meaning store.old.disk image → MatchResult result
         (λ found. found ≡ cells_of (viewed store.old image batch.now) at)
         (RefusesCellAt D.meaning store.new batch.now.pages (viewed store.old image batch.now) at) }
@@ -118,6 +121,7 @@ pub fn version_at<D: Disk>(
     ensures own { ReadsData result }
     ensures below { IfOk result (λ version. link.rec.page.0 < GREATEST_LIMIT) }
     ensures short { IfOk result (λ version. length version.body ≤ GREATEST_SIZE) }
+    ensures lawful { IfOk result IsVersion }
     ensures gives { (image : Image) → Tells D.meaning store.old.disk image → MatchResult result
         (Meets (cells_of (viewed store.old image batch.now)) link)
         (RefusesVersion D.meaning store.new batch.now.pages (viewed store.old image batch.now) holder.0

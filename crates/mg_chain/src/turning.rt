@@ -52,8 +52,8 @@ pub(crate) fn turn<D: Disk>(
     Ok(())
 }
 
-/// Names a slot where no anchor may stand: its page is one slot too short for it.
-fn no_place(rec: RecId) -> Damaged
+/// Names a slot where a cell may not stand: its page is one slot too short for it.
+pub(crate) fn no_place(rec: RecId) -> Damaged
     ensures { result ≡ damage rec.page.0 Field.Count rec.slot (rec.slot + 1) }
 {
     Damaged {

@@ -5,6 +5,7 @@ use Rattle.mg_space.specs.View.{viewed}
 use Rattle.mg_space.specs.declared.fault.SpaceFault.TheVariants as faults
 use Rattle.mg_chain.specs.Chains.{Meets}
 use Rattle.mg_chain.specs.Refusals.{HasShortBody, RefusesVersion}
+use Rattle.mg_version.specs.Cells.{IsCell}
 use Rattle.mg_version.specs.declared.cell.Cell.{Cell}
 use Rattle.mg_chain.proofs.Steps.{cell_refuses, handed_on, past_refuses, target_refuses}
 use Rattle.mg_chain.proofs.cells.version_at.Goals as goal
@@ -45,3 +46,7 @@ returns-in_err-version_of-clause-gives g c = λ image tells.
 pub returns-clause-short : goal.returns-clause-short
 returns-clause-short g c = subst (λ (found : Option Cell). IfSome found HasShortBody)
     c.in_ok-version_of.ensures.ok.0 c.in_ok-cell_at.ensures.short
+
+pub returns-clause-lawful : goal.returns-clause-lawful
+returns-clause-lawful g c = subst (λ (found : Option Cell). IfSome found IsCell)
+    c.in_ok-version_of.ensures.ok.0 c.in_ok-cell_at.ensures.lawful

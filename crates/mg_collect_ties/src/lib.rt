@@ -1,0 +1,18 @@
+//! What is collected on the pages, as the laws on overlays take it.
+//!
+//! Owns: that a version which is dropped right behind a committed one, in a batch of its own (`DropsBehind` of
+//! `mg_chain`), keeps every overlay, whoever is chosen and whatever the history is (`DropKeeps`). What is asked of the
+//! record is said of each reading: it is one of a table, and has the version that leads past the dropped one, a
+//! committed one. That the dropped one stands right behind it follows from the cells.
+//!
+//! All stands in `specs/`. There is no program here: the function does nothing, and its contract is the law.
+//!
+//! Invariant: none, it keeps no state.
+//! Below: `mg_chain`, for the batch; `mg_ties`, for cells that are put and freed; `mg_collect_overlays`, for the law on
+//! overlays. Above: nobody yet; the engine, once it collects.
+//! Not here: whom a dropped version would have served (`mg_generations`, `mg_snap`).
+#![tactic(auto)]
+
+mod laws;
+
+pub use laws::drops_keep;
