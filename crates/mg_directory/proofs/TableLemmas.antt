@@ -1,11 +1,11 @@
 -- The directories of several tables: a place among them, without one, and one more.
-use Rattle.std.proofs.Common.{◌≡◌, ◌≢◌, ◌≤◌, ◌<◌, ◌⊎◌, inl, inr, ◌∙◌, ◌++◌, ◌+◌, ◌==◌, ℕ, zero, suc, Bool, true, false, List, [], ◌∷◌, Option, None, Some, arith, ap, cond, get_or, length, refl, set, subst, sym}
+use Rattle.std.proofs.Common.{◌≡◌, ◌≢◌, ◌≤◌, ◌<◌, ◌⊎◌, inl, inr, ◌∙◌, ◌++◌, ◌+◌, ◌==◌, ◌&&◌, not, ℕ, zero, suc, Bool, true, false, List, [], ◌∷◌, Option, None, Some, arith, ap, cond, get_or, length, refl, set, subst, sym}
 use Rattle.std.proofs.lemmas.Bool.{cases_eq, eq-eqb, ne_eqb}
 use Rattle.std.proofs.lemmas.List.{length-set, length_push}
 use Rattle.mg_base.specs.declared.numbers.RecId.{RecId}
-use Rattle.mg_directory.specs.Bounds.{AreFewer, IsBounded, IsNowhere, IsPlaceOf, LeavesNoted, without}
+use Rattle.mg_directory.specs.Bounds.{AreFewer, IsBounded, IsNowhere, IsPlaceOf, IsTooLarge, LeavesNoted, LeavesPlace, Places, without}
 use Rattle.mg_directory.specs.CandidateLaws.{adds_notes}
-use Rattle.mg_directory.specs.Candidates.{Adds, ByKey, Drops, KeepsOrDrops, Noted, NotesIn, NotesOrDrops, Stays, by_table, notes_in, under}
+use Rattle.mg_directory.specs.Candidates.{Adds, ByKey, Drops, Kept, KeepsOrDrops, MarksFor, Noted, NotesIn, NotesOrDrops, Stays, by_table, is_marked, may_be_made, notes_in, under}
 use Rattle.mg_directory.specs.declared.TheConstants.{MOST_NOTED, MOST_TABLES}
 
 -- ---- a place
@@ -121,10 +121,10 @@ without_tables (dir ∷ dirs) first = at (cases_eq dir.first first) (without_tab
         (sym (other_stays first dir dirs off)) (omega (arith, rest))
 
 -- without the first one there is one less
-pub without_oldest : (dirs : List Noted) (d : Noted) → 0 < length dirs
+pub without_first : (dirs : List Noted) (d : Noted) → 0 < length dirs
     → length (without (get_or dirs 0 d).first dirs) < length dirs
-without_oldest [] d some = absurd (omega (arith, some))
-without_oldest (dir ∷ dirs) d some =
+without_first [] d some = absurd (omega (arith, some))
+without_first (dir ∷ dirs) d some =
     let fewer : length (without dir.first dirs) ≤ length dirs = without_tables dirs dir.first in
     subst (λ (ds : List Noted). length ds < length (dir ∷ dirs)) (sym (its_goes dir.first dir dirs refl))
     (omega (arith, fewer))
@@ -361,13 +361,108 @@ pub fewer_of : (dirs left mid : List Noted) (first its : ℕ) → left ≡ witho
 fewer_of dirs left mid first its is same fewer = subst (λ (ds : List Noted). AreFewer ds mid)
     (is ∙ ap (λ (n : ℕ). without n dirs) same) fewer
 
+-- there is place as it is
+pub place_there : (dirs : List Noted) → length dirs < MOST_TABLES → LeavesPlace dirs dirs
+place_there dirs low = inl (low, refl)
+
 -- the directory that was kept first is gone
 pub oldest_goes : (dirs new : List Noted) (first : ℕ) (d : Noted) → new ≡ without first dirs
-    → first ≡ d.first → d ≡ get_or dirs 0 d → MOST_TABLES ≤ length dirs → length dirs ≤ MOST_TABLES
+    → first ≡ d.first → d ≡ get_or dirs 0 d → MOST_TABLES ≤ length dirs → LeavesPlace dirs new
+oldest_goes [] new first d is its oldest many = absurd (omega (arith, many))
+oldest_goes (dir ∷ dirs) new first d is its oldest many =
+    inr (many, is ∙ ap (λ (n : ℕ). without n (dir ∷ dirs)) (its ∙ ap (λ (x : Noted). x.first) oldest))
+
+-- so some are left, and there is place
+pub place_fewer : (dirs new : List Noted) → LeavesPlace dirs new → AreFewer dirs new
+place_fewer dirs new (inl (low, same)) = subst (AreFewer dirs) (sym same) (all_fewer dirs)
+place_fewer [] new (inr (many, is)) = subst (AreFewer []) (sym is) (all_fewer [])
+place_fewer (dir ∷ dirs) new (inr (many, is)) =
+    subst (AreFewer (dir ∷ dirs)) (sym is) (without_fewer (dir ∷ dirs) dir.first)
+
+pub place_low : (dirs new : List Noted) → LeavesPlace dirs new → length dirs ≤ MOST_TABLES
     → length new < MOST_TABLES
-oldest_goes dirs new first d is its oldest many few =
-    let less : length (without (get_or dirs 0 d).first dirs) < length dirs =
-    without_oldest dirs d (omega (arith, many)) in
-    let all_ : new ≡ without (get_or dirs 0 d).first dirs =
-    is ∙ ap (λ (n : ℕ). without n dirs) (its ∙ ap (λ (dir : Noted). dir.first) oldest) in
-    subst (λ (ds : List Noted). length ds < MOST_TABLES) (sym all_) (omega (arith, less, few))
+place_low dirs new (inl (low, same)) few = subst (λ (ds : List Noted). length ds < MOST_TABLES) (sym same) low
+place_low [] new (inr (many, is)) few = absurd (omega (arith, many))
+place_low (dir ∷ dirs) new (inr (many, is)) few =
+    let less : length (without dir.first (dir ∷ dirs)) < length (dir ∷ dirs) =
+    without_first (dir ∷ dirs) dir (omega arith) in
+    subst (λ (ds : List Noted). length ds < MOST_TABLES) (sym is) (omega (arith, less, few))
+
+-- ---- what is known of a table
+
+pub marked_not : (kept : Kept) (first : ℕ) → is_marked kept.too_large first ≡ true
+    → false ≡ may_be_made kept first
+marked_not kept first is = rw is refl
+
+pub nowhere_may : (kept : Kept) (first : ℕ) → is_marked kept.too_large first ≡ false
+    → IsNowhere kept.dirs first → true ≡ may_be_made kept first
+nowhere_may kept first is nowhere = rw (is, nowhere_none kept.dirs first nowhere) refl
+
+pub somewhere_not : (kept : Kept) (first place : ℕ) → IsPlaceOf kept.dirs first place
+    → false ≡ may_be_made kept first
+somewhere_not kept first place is =
+    rw (place_some kept.dirs first place (record { first = 0; room = 0; notes = [] }) is) (neither (is_marked kept.too_large first))
+  where
+    neither : (b : Bool) → false ≡ (not b && false)
+    neither true = refl
+    neither false = refl
+
+-- no mark is made
+pub marks_none : (cause : Type 0) (old new : Kept) (first : ℕ) → new.most ≡ old.most
+    → new.too_large ≡ old.too_large → MarksFor cause old new first
+marks_none cause old new first most same = record { most = most; marked = inl same }
+
+-- what is kept, by its parts
+abbrev pub kept_of : ℕ → List Noted → List ℕ → Kept
+kept_of most dirs too_large = record { most = most; dirs = dirs; too_large = too_large }
+
+-- a mark is made, where there is memory for it
+pub marks : {most first its : ℕ} {dirs now : List Noted} {too_large new : List ℕ} {old : Kept} {cause : Type 0}
+    → kept_of most dirs too_large ≡ old → cause → (b : Bool) → its ≡ first
+    → new ≡ cond b (too_large ++ its ∷ []) too_large → MarksFor cause old (kept_of most now new) first
+marks {first = first} {too_large = too_large} seen because true same is = record {
+  most = ap (λ (k : Kept). k.most) seen;
+  marked = inr (
+    is ∙ (ap (λ (n : ℕ). too_large ++ n ∷ []) same ∙ ap (λ (k : Kept). k.too_large ++ first ∷ []) seen),
+    because,
+  );
+}
+marks seen because false same is = record {
+  most = ap (λ (k : Kept). k.most) seen;
+  marked = inl (is ∙ ap (λ (k : Kept). k.too_large) seen);
+}
+
+others_of : {most its : ℕ} {dirs left : List Noted} {too_large : List ℕ} {old : Kept} (dir : Noted)
+    → kept_of most dirs too_large ≡ old → left ≡ without its dirs → its ≡ dir.first
+    → left ≡ without dir.first old.dirs
+others_of {dirs = dirs} dir seen is same = is
+    ∙ (ap (λ (n : ℕ). without n dirs) same ∙ ap (λ (k : Kept). without dir.first k.dirs) seen)
+
+pub too_large_of : {most its : ℕ} {dirs : List Noted} {too_large : List ℕ} {old : Kept}
+    → kept_of most dirs too_large ≡ old → (dir : Noted) (left : List Noted) → left ≡ without its dirs
+    → its ≡ dir.first → most < notes_in left + length dir.notes → IsTooLarge old dir
+too_large_of {old = old} seen dir left is same over =
+    subst (λ (ds : List Noted). old.most < notes_in ds + length dir.notes) (others_of dir seen is same)
+    (subst (λ (n : ℕ). n < notes_in left + length dir.notes) (ap (λ (k : Kept). k.most) seen) over)
+
+pub places_not : {most its : ℕ} {dirs : List Noted} {too_large : List ℕ} {old : Kept}
+    → kept_of most dirs too_large ≡ old → (new : List ℕ) (dir : Noted) (left : List Noted) → left ≡ without its dirs
+    → its ≡ dir.first → most < notes_in left + length dir.notes → Places old (kept_of most left new) dir
+places_not seen new dir left is same over =
+    inl (too_large_of seen dir left is same over, others_of dir seen is same)
+
+pub places_either : {most its : ℕ} {dirs now : List Noted} {too_large : List ℕ} {old : Kept}
+    → kept_of most dirs too_large ≡ old → (new : List ℕ) (dir : Noted) (left mid : List Noted) → left ≡ without its dirs
+    → its ≡ dir.first → LeavesPlace left mid → notes_in left + length dir.notes ≤ most → (b : Bool)
+    → now ≡ cond b (mid ++ dir ∷ []) mid → Places old (kept_of most now new) dir
+places_either {now = now} {old = old} seen new dir left mid is same place within b put = inr (
+  subst (λ (ds : List Noted). notes_in ds + length dir.notes ≤ old.most) (others_of dir seen is same)
+      (subst (λ (n : ℕ). notes_in left + length dir.notes ≤ n) (ap (λ (k : Kept). k.most) seen) within),
+  mid,
+  subst (λ (ds : List Noted). LeavesPlace ds mid) (others_of dir seen is same) place,
+  at b put,
+)
+  where
+    at : (b : Bool) → now ≡ cond b (mid ++ dir ∷ []) mid → (now ≡ mid ++ dir ∷ []) ⊎ (now ≡ mid)
+    at true with_ = inl with_
+    at false without_ = inr without_

@@ -1,7 +1,7 @@
 -- The directories of several tables together: a place among them, and their bounds.
-use Rattle.std.specs.Prelude.{◌≡◌, ◌≢◌, ◌≤◌, ◌<◌, ◌+◌, ◌==◌, ℕ, Bool, not, List, filter, length, slice_index_or}
+use Rattle.std.specs.Prelude.{◌≡◌, ◌≢◌, ◌⊎◌, ◌≤◌, ◌<◌, ◌+◌, ◌++◌, ◌==◌, ℕ, Bool, not, List, [], ◌∷◌, filter, length, slice_index_or}
 use Rattle.mg_base.specs.declared.numbers.RecId.{RecId}
-use Rattle.mg_directory.specs.Candidates.{Noted, NotesIn, Stays, by_table, notes_in}
+use Rattle.mg_directory.specs.Candidates.{Kept, Noted, NotesIn, Stays, by_table, notes_in}
 use Rattle.mg_directory.specs.declared.TheConstants.{MOST_NOTED, MOST_TABLES}
 
 -- a directory is of another table
@@ -35,6 +35,29 @@ pub record LeavesNoted (old new : List Noted) (first : ℕ) (bytes : List ℕ) (
   pub others : without first new ≡ without first old
   pub notes : notes_in new ≤ notes_in old + 1
   pub tables : length new ≤ length old
+
+-- all but that which was kept first, and others of its table
+abbrev pub without_oldest : List Noted → List Noted
+without_oldest [] = []
+without_oldest (dir ∷ dirs) = without dir.first (dir ∷ dirs)
+
+-- there is place for one more: where there were as many as there may be, that which was kept first is gone
+abbrev pub LeavesPlace : List Noted → List Noted → Type 0
+LeavesPlace old new = ((length old < MOST_TABLES) × (new ≡ old))
+    ⊎ ((MOST_TABLES ≤ length old) × (new ≡ without_oldest old))
+
+-- a directory has more notes than there is room for beside those of other tables
+abbrev pub IsTooLarge : Kept → Noted → Type 0
+IsTooLarge kept dir = kept.most < notes_in (without dir.first kept.dirs) + length dir.notes
+
+-- A directory is the last of those that are kept, or it is left out for want of memory: in place of the one that its
+-- table had, and of that which was kept first if there is no place. If it is too large, its table has none, and others
+-- are as they were.
+abbrev pub Places : Kept → Kept → Noted → Type 0
+Places old new dir = (IsTooLarge old dir × (new.dirs ≡ without dir.first old.dirs))
+    ⊎ ((notes_in (without dir.first old.dirs) + length dir.notes ≤ old.most)
+    × (left : List Noted) × LeavesPlace (without dir.first old.dirs) left
+    × ((new.dirs ≡ left ++ dir ∷ []) ⊎ (new.dirs ≡ left)))
 
 -- some tables may have lost their directories
 pub record AreFewer (old new : List Noted) : Type 0 where

@@ -1,5 +1,7 @@
 -- Records by the bytes of keys: what a directory has, and what a note does to it.
-use Rattle.std.specs.Prelude.{◌≡◌, ◌≢◌, ◌⊎◌, ◌+◌, ◌*◌, ◌==◌, ◌≤◌, ℕ, List, [], ◌∷◌, Option, None, Some, length, if◌then◌else◌, min}
+use Rattle.std.specs.List.{list_any}
+use Rattle.std.specs.Option.{is_none}
+use Rattle.std.specs.Prelude.{◌≡◌, ◌≢◌, ◌⊎◌, ◌+◌, ◌*◌, ◌==◌, ◌≤◌, ◌++◌, ◌&&◌, ℕ, Bool, not, List, [], ◌∷◌, Option, None, Some, length, if◌then◌else◌, min}
 use Rattle.mg_base.specs.declared.numbers.RecId.{RecId}
 use Rattle.mg_directory.specs.Hashes.{hash_of}
 use Rattle.mg_directory.specs.declared.TheConstants.{MOST_NOTED}
@@ -66,6 +68,13 @@ pub record IsStarted (first rows : ℕ) (dir : Noted) : Type 0 where
 
 -- ---- the directories of tables
 
+-- what is kept: how many notes there may be in all, the directories, of which the one that was kept
+-- first is the first, and the first pointer pages of the tables that are known to have too many records
+pub record Kept : Type 0 where
+  pub most : ℕ
+  pub dirs : List Noted
+  pub too_large : List ℕ
+
 -- the directories of tables by their first pointer pages; a table may have none
 abbrev pub ByTable : Type 0
 ByTable = ℕ → Option ByKey
@@ -83,6 +92,20 @@ at_key (Some dir) bytes = Some (dir bytes)
 abbrev pub notes_in : List Noted → ℕ
 notes_in [] = 0
 notes_in (dir ∷ dirs) = length dir.notes + notes_in dirs
+
+-- a table is known to have too many records
+abbrev pub is_marked : List ℕ → ℕ → Bool
+is_marked too_large first = list_any (λ n. n == first) too_large
+
+-- a directory of a table is worth to be made: it has none, and is not known to have too many records
+abbrev pub may_be_made : Kept → ℕ → Bool
+may_be_made kept first = not (is_marked kept.too_large first) && is_none (by_table kept.dirs first)
+
+-- The bound stays, and a table may be marked from now on as one that has too many records: then there
+-- is a cause.
+pub record MarksFor (cause : Type 0) (old new : Kept) (first : ℕ) : Type 0 where
+  pub most : new.most ≡ old.most
+  pub marked : (new.too_large ≡ old.too_large) ⊎ ((new.too_large ≡ old.too_large ++ first ∷ []) × cause)
 
 -- A record is noted under the bytes of a key. All candidates stay, and it alone comes, perhaps
 -- under other bytes, too.

@@ -1,9 +1,8 @@
 //! The directories of several tables.
 
-ghost use Rattle.std.specs.Bool.{OnTrue};
 ghost use Rattle.std.specs.Prelude.{◌≡◌, ◌≤◌, ◌<◌, ◌+◌, [], None, Some, IfNone, IfOk, IfSome, MatchOption, length};
-ghost use Rattle.mg_directory.specs.Bounds.{AreFewer, IsNowhere, IsPlaceOf, LeavesNoted, without};
-ghost use Rattle.mg_directory.specs.Candidates.{Drops, IsStarted, KeepsOrDrops, NotesOrDrops, at_key, by_table, notes_in, under};
+ghost use Rattle.mg_directory.specs.Bounds.{IsNowhere, IsPlaceOf, IsTooLarge, LeavesNoted, LeavesPlace, Places, without};
+ghost use Rattle.mg_directory.specs.Candidates.{Drops, IsStarted, KeepsOrDrops, MarksFor, NotesOrDrops, at_key, by_table, may_be_made, notes_in, under};
 
 use crate::directory::Directory;
 use crate::{MOST_NOTED, MOST_TABLES};
@@ -23,13 +22,16 @@ pub struct Directories {
 }
 
 impl Model for Directories {
-    ghost use Rattle.std.specs.Prelude.{List};
     ghost use Rattle.mg_directory.specs.Bounds.{IsBounded};
-    ghost use Rattle.mg_directory.specs.Candidates.{Noted};
+    ghost use Rattle.mg_directory.specs.Candidates.{Kept};
 
-    ghost Value = { List Noted };
+    ghost Value = { Kept };
 
-    ghost view = { λ directories. directories.tables.items };
+    ghost view = { λ directories. record {
+      most = directories.most;
+      dirs = directories.tables.items;
+      too_large = directories.too_large.items;
+    } };
 
     ghost invariant = { λ directories. IsBounded directories.most directories.tables.items };
 }
@@ -38,7 +40,7 @@ impl Directories {
     /// No table has one. There will be no more notes than `most` in all.
     pub fn new(alloc: Global, most: usize) -> Directories
         requires { most ≤ MOST_NOTED }
-        ensures { result ≡ [] }
+        ensures { result ≡ record { most = most; dirs = []; too_large = [] } }
     {
         Directories {
             most,
@@ -60,8 +62,8 @@ impl Directories {
         bytes: &[u8],
     ) -> Result<Option<Vec<RecId>>, Memory>
         ensures { IfOk result (λ found. MatchOption found
-            (by_table self.now first.0 ≡ None)
-            (λ recs. at_key (by_table self.now first.0) bytes.now ≡ Some recs.items)) }
+            (by_table self.now.dirs first.0 ≡ None)
+            (λ recs. at_key (by_table self.now.dirs first.0) bytes.now ≡ Some recs.items)) }
     {
         let Some(place) = place_of(&self.tables, first.0) else {
             return Ok(None);
@@ -71,9 +73,11 @@ impl Directories {
     }
 
     /// Notes a record of a table under the bytes of a key, if the table has a directory. What can't
-    /// be noted drops that.
+    /// be noted drops that. Where there are too many notes then, this is known of the table from now on.
     pub fn note(&mut self, first: PageNo, bytes: &[u8], rec: RecId)
-        ensures { NotesOrDrops (by_table self.old) (by_table self.new) first.0 bytes.now rec }
+        ensures notes { NotesOrDrops (by_table self.old.dirs) (by_table self.new.dirs) first.0
+            bytes.now rec }
+        ensures marks { MarksFor (self.old.most ≤ notes_in self.old.dirs) self.old self.new first.0 }
     {
         note_in(&mut self.tables, first.0, bytes, rec);
         if notes_of(&self.tables) <= self.most {
@@ -87,7 +91,7 @@ impl Directories {
     /// Whether a directory of a table is worth to be made: it has none, and is not known to have
     /// too many records.
     pub fn may_start(&self, first: PageNo) -> bool
-        ensures { OnTrue result (by_table self.now first.0 ≡ None) }
+        ensures { result ≡ may_be_made self.now first.0 }
     {
         if self.too_large.contains(&first.0) {
             return false;
@@ -110,8 +114,10 @@ impl Directories {
         first: PageNo,
         rows: usize,
     ) -> Result<Option<Directory>, Memory>
-        ensures same { self.new ≡ self.old }
-        ensures started { IfOk result (λ started. IfSome started (IsStarted first.0 rows)) }
+        ensures same { self.new.dirs ≡ self.old.dirs }
+        ensures marks { MarksFor (self.old.most < rows) self.old self.new first.0 }
+        ensures started { IfOk result (λ started. MatchOption started (self.old.most < rows)
+            (λ dir. IsStarted first.0 rows dir × (rows ≤ self.old.most))) }
     {
         if rows > self.most {
             let _marked = self.too_large.push(first.0);
@@ -122,31 +128,35 @@ impl Directories {
     }
 
     /// Keeps the directory of a table in place of the one that it had. Where there are too many
-    /// tables, that which was kept first loses its own; where there are too many notes, or for
-    /// want of memory, this table has none.
+    /// notes with it, this table has none, and this is known of it from now on. Else it has none for
+    /// want of memory; and that which was kept first is gone, where there is no place for one more.
     pub fn keep(&mut self, dir: Directory)
-        ensures { KeepsOrDrops (by_table self.old) (by_table self.new) dir.first (under dir) }
+        ensures keeps { KeepsOrDrops (by_table self.old.dirs) (by_table self.new.dirs) dir.first
+            (under dir) }
+        ensures places { Places self.old self.new dir }
+        ensures marks { MarksFor (IsTooLarge self.old dir) self.old self.new dir.first }
     {
         let first = dir.first().0;
         drop_from(&mut self.tables, first);
-        make_place(&mut self.tables);
         if notes_of(&self.tables) + dir.notes() > self.most {
             let _marked = self.too_large.push(first);
             return;
         }
+        make_place(&mut self.tables);
         let _kept = self.tables.push(dir);
     }
 
     /// Drops the directory of a table, if it has one.
     pub fn drop_table(&mut self, first: PageNo)
-        ensures { Drops (by_table self.old) (by_table self.new) first.0 }
+        ensures drops { Drops (by_table self.old.dirs) (by_table self.new.dirs) first.0 }
+        ensures rest { self.new ≡ record self.old { dirs = self.new.dirs } }
     {
         drop_from(&mut self.tables, first.0);
     }
 
     /// Drops all directories.
     pub fn drop_all(&mut self)
-        ensures { self.new ≡ [] }
+        ensures { self.new ≡ record self.old { dirs = [] } }
     {
         self.tables.clear();
     }
@@ -175,8 +185,7 @@ fn drop_from(tables: &mut Vec<Directory>, first: u32)
 /// Drops the directory that was kept first, if there is no place for one more.
 fn make_place(tables: &mut Vec<Directory>)
     requires { length tables.old.items ≤ MOST_TABLES }
-    ensures fewer { AreFewer tables.old.items tables.new.items }
-    ensures place { length tables.new.items < MOST_TABLES }
+    ensures { LeavesPlace tables.old.items tables.new.items }
 {
     if tables.len() < MOST_TABLES {
         return;

@@ -1,4 +1,5 @@
 pub mod ChangingLemmas
+pub mod ListedLemmas
 pub mod LookupLemmas
 pub mod ReachLemmas
 pub mod ReadingLemmas

@@ -51,7 +51,7 @@ stands_are_tables in_primary size pages stand has = record {
 
 -- ---- a page that is missing is blank, and is no page of a table
 
-else_of : (o : Option (List ℕ)) (x : List ℕ) → is_some o ≡ false → unwrap_or o x ≡ x
+pub else_of : (o : Option (List ℕ)) (x : List ℕ) → is_some o ≡ false → unwrap_or o x ≡ x
 else_of None x none = refl
 else_of (Some y) x none = absurd cc
 
@@ -61,7 +61,7 @@ blank_byte size at = elim (cases_lt at size) [
   | inr past_ ↦ get_or_past (blank size) at 0 (omega (arith, length-replicate {A = ℕ} size 0))
 ]
 
-no_kind : (b : List ℕ) (size n kind owner at : ℕ) → b ≡ blank size → kind ≢ 0
+pub no_kind : (b : List ℕ) (size n kind owner at : ℕ) → b ≡ blank size → kind ≢ 0
     → PassesAll (common_checks b n kind owner at) → ⊥
 unfolding common_checks
 no_kind b size n kind owner at is some passes =

@@ -4,6 +4,8 @@ pub mod ChangingLaws
 pub mod Growth
 pub mod GrowthLaws
 pub mod HandedLaws
+pub mod Listed
+pub mod ListedLaws
 pub mod Places
 pub mod PlacesLaws
 pub mod Reach

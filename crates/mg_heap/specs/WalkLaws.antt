@@ -15,7 +15,7 @@ use Rattle.mg_heap.specs.Table.{IsTable}
 use Rattle.mg_heap.specs.Walk.{AreEmpty, GivesAt, GivesFrom, GivesNext, IsNext, IsNextIn, behind}
 
 -- a number that a list has at a place is one of the list
-has_at : (ns : List ℕ) (place : ℕ) → place < length ns → Has ns (get_or ns place 0)
+pub has_at : (ns : List ℕ) (place : ℕ) → place < length ns → Has ns (get_or ns place 0)
 has_at [] place inside = absurd (omega (arith, inside))
 has_at (n ∷ ns) zero inside = inl refl
 has_at (n ∷ ns) (suc place) inside = inr (has_at ns place (omega (arith, inside)))

@@ -50,7 +50,7 @@ pub fn owner_of<D: Disk>(
 }
 
 /// The owner that a page names.
-fn owner_number(b: &[u8]) -> u32
+pub(crate) fn owner_number(b: &[u8]) -> u32
     requires { 12 ≤ length b.now }
     ensures { result ≡ owner_in b.now }
 {

@@ -115,7 +115,7 @@ fn next_after<D: Disk>(
 }
 
 /// The place that a page names, among those of its owner.
-fn place_of(b: &[u8]) -> u32
+pub(crate) fn place_of(b: &[u8]) -> u32
     requires { 16 ≤ length b.now }
     ensures { result ≡ sequence_in b.now }
 {

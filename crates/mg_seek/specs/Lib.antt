@@ -4,6 +4,7 @@ pub mod Refusals
 pub mod Views
 pub mod TableRecords
 pub mod Speaking
+pub mod Candidates
 pub mod TableRows
 pub mod Readings
 pub mod Histories
@@ -13,5 +14,6 @@ pub mod ReadingLaws
 pub mod HistoryLaws
 pub mod AmongLaws
 pub mod SpeakerLaws
+pub mod CandidateLaws
 pub mod OrderLaws
 pub mod ViewLaws

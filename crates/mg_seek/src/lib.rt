@@ -16,6 +16,7 @@
 //! invariant of the engine.
 #![tactic(auto)]
 
+mod candidates;
 mod erased;
 mod laws;
 mod listing;
@@ -26,6 +27,7 @@ mod views;
 mod walk;
 mod whose;
 
+pub use candidates::speaker_among_candidates;
 pub use laws::{
     keys_are_those_of_the_history, records_are_those_of_every_reading, walks_are_whole,
 };

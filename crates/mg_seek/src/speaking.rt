@@ -101,7 +101,7 @@ fn speaker_among<D: Disk, S: States>(
 }
 
 /// Tells whether a record speaks for a key.
-fn speaks<D: Disk, S: States>(
+pub(crate) fn speaks<D: Disk, S: States>(
     store: &mut Store<D>,
     batch: &Batch,
     table: &Table,

@@ -1,0 +1,6 @@
+use Rattle.mg_heap.proofs.ListedLemmas.{on_false}
+use Rattle.mg_heap.proofs.listed.named_place.Goals as goal
+
+pub returns-then-not-holds-clause-names : goal.returns-then-not-holds-clause-names
+returns-then-not-holds-clause-names g c = λ image tells is.
+    on_false c.in_ok-holds.holds c.if-not-holds.true (c.in_ok-holds.ensures.none image tells) is.data_page
