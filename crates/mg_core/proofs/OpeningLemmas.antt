@@ -23,6 +23,8 @@ use Rattle.mg_space.specs.declared.links.FireLinks.{FireLinks}
 use Rattle.mg_txlist.specs.ReadingLaws.{of_more}
 use Rattle.mg_txlist.specs.declared.list.TipPage.{TipPage}
 use Rattle.mg_works.specs.Works.{Working, work_of}
+use Rattle.mg_directory.specs.Candidates.{Kept}
+use Rattle.mg_directory.specs.declared.TheConstants.{MOST_NOTED}
 use Rattle.mg_core.specs.declared.parts.Core.{Core}
 use Rattle.mg_core.specs.Cores.{IsCore}
 use Rattle.mg_core.specs.Opening.{Opens}
@@ -41,12 +43,12 @@ read_then m disk mid new tips pointers data_pages first next = more_reads m disk
 
 -- An engine has what was read, and nobody works with it yet.
 module _ {D : Type 0} (m : Meaning D) (disk : D) (limit : ℕ) (before after : Pool D FireLinks)
-    (loaded : Loaded) (waits : List (ℕ × ℕ)) (works : List Working)
+    (loaded : Loaded) (waits : List (ℕ × ℕ)) (works : List Working) (directories : Kept)
     (prepared : IsPrepared m disk limit before) (keeps : KeepsStore m before after)
     (is : IsLoaded before.geometry.size loaded)
     (steady : m.faults after.disk ≡ m.faults before.disk)
     (loads : ReadsFront m before after loaded.list.pages.items loaded.catalog_pages.pointers.items
-    loaded.catalog_pages.data_pages.items) (nobody : waits ≡ []) (none : works ≡ []) where
+    loaded.catalog_pages.data_pages.items) (nobody : waits ≡ []) (none : works ≡ []) (unnoted : directories ≡ record { most = MOST_NOTED; dirs = []; too_large = [] }) where
   abbrev core : Core D
   core = record {
     store = after;
@@ -54,6 +56,7 @@ module _ {D : Type 0} (m : Meaning D) (disk : D) (limit : ℕ) (before after : P
     live = loaded.live;
     waits = waits;
     works = works;
+    directories = directories;
     catalog = loaded.catalog;
     markers = loaded.markers;
     damage = 0;
@@ -108,6 +111,7 @@ module _ {D : Type 0} (m : Meaning D) (disk : D) (limit : ℕ) (before after : P
       undecided = is.undecided;
       works = none;
       waits = nobody;
+      directories = unnoted;
       damage = refl;
       shortages = refl;
     };

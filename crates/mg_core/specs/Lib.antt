@@ -6,6 +6,7 @@ pub mod Committing
 pub mod Ending
 pub mod Beginning
 pub mod Reading
+pub mod Noting
 pub mod Obstacles
 pub mod Putting
 pub mod Writing

@@ -8,6 +8,7 @@ use Rattle.mg_database.specs.Loading.{AreUndecided, OpensAlone, RefusesPages, Sa
 use Rattle.mg_database.specs.Preparing.{FailsToPrepare, IsPrepared}
 use Rattle.mg_database.specs.declared.fault.OpenFault.{OpenFault}
 use Rattle.mg_database.specs.declared.fault.OpenFault.TheVariants.{NotADatabase, Space}
+use Rattle.mg_directory.specs.declared.TheConstants.{MOST_NOTED}
 use Rattle.mg_format.specs.Format.{IsClean}
 use Rattle.mg_model.specs.declared.refusal.Refusal.{Refusal}
 use Rattle.mg_model.specs.declared.refusal.Refusal.TheVariants as refusals
@@ -23,7 +24,7 @@ use Rattle.mg_core.specs.Cores.{IsCore}
 use Rattle.mg_core.specs.Refusing.{IsRefusal, IsRefusalOf}
 
 -- An engine with which nobody works yet: no page is dirty, nobody is active, those in limbo have not ended and
--- have no bases, nobody waits, and nothing was counted.
+-- have no bases, nobody waits, no key is noted, and nothing was counted.
 pub record IsIdle {D : Type 0} (m : Meaning D) (core : Core D) : Type 0 where
   pub core_is : IsCore m core
   pub online : core.store.offline ≡ None
@@ -32,6 +33,7 @@ pub record IsIdle {D : Type 0} (m : Meaning D) (core : Core D) : Type 0 where
   pub undecided : AreUndecided core.list core.live
   pub works : core.works ≡ []
   pub waits : core.waits ≡ []
+  pub directories : core.directories ≡ record { most = MOST_NOTED; dirs = []; too_large = [] }
   pub damage : core.damage ≡ 0
   pub shortages : core.shortages ≡ 0
 

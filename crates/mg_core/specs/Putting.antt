@@ -1,9 +1,10 @@
 -- A row is put on the pages, and what it was before is kept.
-use Rattle.std.specs.Prelude.{◌≡◌, ℕ, List, Option}
+use Rattle.std.specs.Prelude.{◌≡◌, ◌≤◌, ℕ, List, Option}
 use Rattle.mg_base.specs.Disk.{Meaning}
 use Rattle.mg_base.specs.Image.{Image}
 use Rattle.mg_base.specs.declared.numbers.RecId.{RecId}
 use Rattle.mg_base.specs.declared.numbers.TxNo.{TxNo}
+use Rattle.mg_directory.specs.Candidates.{MarksFor, NotesOrDrops, by_table, notes_in}
 use Rattle.mg_image.specs.Form.{Pages}
 use Rattle.mg_model.specs.declared.refusal.Refusal.{Refusal}
 use Rattle.mg_model.specs.declared.refusal.Refusal.TheVariants.{Memory}
@@ -14,11 +15,12 @@ use Rattle.mg_records.specs.declared.write.Write.{Write}
 use Rattle.mg_row_writes.specs.Befores.{IsBefore}
 use Rattle.mg_row_writes.specs.Changing.{not_lawful}
 use Rattle.mg_row_writes.specs.Finding.{RefusesSeen}
-use Rattle.mg_row_writes.specs.Laying.{FailsLay, Lays}
+use Rattle.mg_row_writes.specs.Laying.{FailsLay, Lays, laid_in}
 use Rattle.mg_row_writes.specs.Storing.{IsStored, MayBeStored}
 use Rattle.mg_row_writes.specs.declared.before.Before.{Before}
 use Rattle.mg_seek.specs.Versions.{wants}
 use Rattle.mg_seek.specs.declared.whose.Wanted.TheVariants.{Any}
+use Rattle.mg_sortkey.specs.KeyBytes.{key_bytes}
 use Rattle.mg_space.specs.View.{Tells}
 use Rattle.mg_space.specs.declared.fault.SpaceFault.{SpaceFault}
 use Rattle.mg_space.specs.declared.fault.SpaceFault.TheVariants as faults
@@ -54,6 +56,12 @@ pub record LaysKept {D : Type 0} (m : Meaning D) (old new : Core D) (t owner : �
     store = new.store;
     works = works_kept t owner key before.was old.works;
   }
+
+-- So it is, in this record.
+pub record LaysKeptIn {D : Type 0} (m : Meaning D) (old new : Core D) (t owner : ℕ) (key : Value) (before : Before)
+    (v : Version) (rec : RecId) : Type 0 where
+  pub laid : LaysKept m old new t owner key before v
+  pub at : rec ≡ laid_in m old.store new.store owner before.way v laid.lays
 
 -- It is not: what was kept is taken back, and the fault is told and counted.
 pub record FailsLaid {D : Type 0} (m : Meaning D) (old new : Core D) (t owner : ℕ) (key : Value) (before : Before)
@@ -100,14 +108,25 @@ pub record HasBefore {D : Type 0} (m : Meaning D) (old read : Core D) (t : TxNo)
   pub told : (image : Image) → Tells m old.store.disk image
       → StandsBefore old t table rec before (shown old.store.dirty image)
 
--- The row of a write is put: its version is laid on the way that what stands there has.
+-- A record of a table is noted under a key, if the table has a directory, or that is dropped; and the table is marked
+-- as one with too many records only where there are as many notes as there may be.
+pub record NotesRow {D : Type 0} (old new : Core D) (first : ℕ) (key : Value) (rec : RecId) : Type 0 where
+  pub notes : NotesOrDrops (by_table old.directories.dirs) (by_table new.directories.dirs) first (key_bytes key) rec
+  pub marks : MarksFor (old.directories.most ≤ notes_in old.directories.dirs) old.directories new.directories first
+  pub same : new ≡ record old { directories = new.directories }
+
+-- The row of a write is put: its version is laid on the way that what stands there has, and the record is noted.
 pub record PutsRow {D : Type 0} (m : Meaning D) (old new : Core D) (t : TxNo) (table : Table) (write : Write)
     (key : Value) (rec : Option RecId) : Type 0 where
   pub read : Core D
   pub before : Before
   pub version : Version
   pub has : HasBefore m old read t table write rec before version
-  pub laid : LaysKept m read new t.0 table.pointer.0 key before version
+  pub laid : LaysKept m read (record new { directories = read.directories }) t.0 table.pointer.0 key before version
+  pub noted : NotesOrDrops (by_table read.directories.dirs) (by_table new.directories.dirs) table.pointer.0 (key_bytes key)
+      (laid_in m read.store new.store table.pointer.0 before.way version laid.lays)
+  pub marks : MarksFor (read.directories.most ≤ notes_in read.directories.dirs) read.directories new.directories
+      table.pointer.0
 
 -- why it is not put
 pub data FailsPut {D : Type 0} (m : Meaning D) (old new : Core D) (t : TxNo) (table : Table) (write : Write)

@@ -4,6 +4,7 @@ use Rattle.mg_base.specs.Disk.{Meaning}
 use Rattle.mg_base.specs.Image.{Image}
 use Rattle.mg_base.specs.declared.numbers.RecId.{RecId}
 use Rattle.mg_base.specs.declared.numbers.TxNo.{TxNo}
+use Rattle.mg_directory.specs.Candidates.{at_key, by_table}
 use Rattle.mg_image.specs.Form.{Pages}
 use Rattle.mg_model.specs.declared.refusal.Refusal.{Refusal}
 use Rattle.mg_model.specs.declared.refusal.Refusal.TheVariants.{DuplicateKey, Memory, NoRow, ReadOnly}
@@ -16,6 +17,8 @@ use Rattle.mg_row_writes.specs.Changing.{not_lawful}
 use Rattle.mg_row_writes.specs.Finding.{IsRowAt, RefusesRowAt}
 use Rattle.mg_row_writes.specs.Storing.{written_at}
 use Rattle.mg_row_writes.specs.declared.finding.RowAt.{RowAt}
+use Rattle.mg_seek.specs.Candidates.{AreEnough}
+use Rattle.mg_sortkey.specs.KeyBytes.{key_bytes}
 use Rattle.mg_space.specs.View.{Tells}
 use Rattle.mg_space.specs.declared.fault.SpaceFault.{SpaceFault}
 use Rattle.mg_space.specs.declared.fault.SpaceFault.TheVariants as faults
@@ -92,20 +95,39 @@ pub record ReadsRow {D : Type 0} (m : Meaning D) (old new : Core D) (t : TxNo) (
   pub told : (image : Image) → Tells m old.store.disk image
       → IsOfKey old t table key found (shown old.store.dirty image)
 
+-- the candidates that the directories have for a key, if they have some, are enough
+abbrev pub KnowsKey : {D : Type 0} → Core D → Table → Value → Pages → Type 0
+KnowsKey core table key view = (candidates : List RecId)
+    → at_key (by_table core.directories.dirs table.pointer.0) (key_bytes key) ≡ Some candidates
+    → AreEnough (said core.list) core.live view table key candidates
+
+-- It was read by the directories, and is so where they know the key.
+pub record ReadsKnown {D : Type 0} (m : Meaning D) (old new : Core D) (t : TxNo) (table : Table) (key : Value)
+    (found : RowAt) : Type 0 where
+  pub reads : OnlyReads m old new
+  pub told : (image : Image) → Tells m old.store.disk image
+      → KnowsKey old table key (shown old.store.dirty image)
+      → IsOfKey old t table key found (shown old.store.dirty image)
+
+abbrev pub WhyOfKnown : {D : Type 0} → Meaning D → Core D → TxNo → Table → Value → Pool D FireLinks → Pages
+    → SpaceFault → Type 0
+WhyOfKnown m core t table key store view fault =
+    KnowsKey core table key view → WhyOfKey m core t table key store view fault
+
 -- The row in the view allows the write, and this is the record that speaks for its key.
 pub record FindsRow {D : Type 0} (m : Meaning D) (old new : Core D) (t : TxNo) (table : Table) (key : Value)
     (write : Write) (rec : Option RecId) : Type 0 where
   pub found : RowAt
-  pub reads : ReadsRow m old new t table key found
+  pub reads : ReadsKnown m old new t table key found
   pub allows : Allows write (is_some found.row)
   pub is : rec ≡ found.rec
 
 -- It was not read, or does not allow the write.
 pub data FailsRow {D : Type 0} (m : Meaning D) (old new : Core D) (t : TxNo) (table : Table) (key : Value)
     (write : Write) (refusal : Refusal) : Type 0 where
-  row_unread : FailsReading m old new (WhyOfKey m old t table key) refusal
+  row_unread : FailsReading m old new (WhyOfKnown m old t table key) refusal
       → FailsRow m old new t table key write refusal
-  row_wrong : (found : RowAt) → ReadsRow m old new t table key found
+  row_wrong : (found : RowAt) → ReadsKnown m old new t table key found
       → IsWrong write (is_some found.row) refusal → FailsRow m old new t table key write refusal
 
 -- ---- the stages

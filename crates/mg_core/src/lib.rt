@@ -15,7 +15,7 @@
 //! transactions are those that the list says are active; the bases' next number is the list's; the
 //! catalog is the table that the file format says.
 //! Below: `mg_space`, for the pages; `mg_row_writes`, for rows on them, and `mg_seek`, which finds tables and
-//! rows; `mg_txlist`, `mg_snap`, `mg_waits` and `mg_works`, for the memory; `mg_database`, which opens and
+//! rows; `mg_directory` and `mg_noting`, for the records of tables by the bytes of their keys; `mg_txlist`, `mg_snap`, `mg_waits` and `mg_works`, for the memory; `mg_database`, which opens and
 //! closes a disk.
 //! Above: crates with further calls, which keep the invariant as these do, and for which the parts of `Core` are open;
 //! the engine as a keeper of records, which stands for a history.
@@ -26,6 +26,7 @@ mod beginning;
 mod committing;
 mod ending;
 mod events;
+mod noting;
 mod obstacles;
 mod opening;
 mod parts;

@@ -31,7 +31,15 @@ impl<D: Disk> Core<D> {
             Err(_) => return Err(Refusal::Memory),
         };
         let states = StatesOf::new(&self.list);
-        match obstacle_at(&mut self.store, &self.catalog, &key, &states, &self.live, t) {
+        match obstacle_at(
+            &mut self.store,
+            &self.catalog,
+            &key,
+            &states,
+            &self.live,
+            t,
+            None,
+        ) {
             Ok(found) => self.pass(t, wait, found),
             Err(fault) => Err(self.refuse(fault)),
         }

@@ -8,6 +8,7 @@ use crate::parts::Core;
 use crate::refusing::{refusal_of, write_refusal};
 use mg_base::Disk;
 use mg_database::{OpenFault, finish, load, prepare};
+use mg_directory::{Directories, MOST_NOTED};
 use mg_model::Refusal;
 use mg_pool::PoolFault;
 use mg_waits::Waits;
@@ -42,6 +43,7 @@ impl<D: Disk> Core<D> {
                 live: loaded.live,
                 waits: Waits::new(alloc),
                 works: Works::new(alloc),
+                directories: Directories::new(alloc, MOST_NOTED),
                 catalog: loaded.catalog,
                 markers: loaded.markers,
                 damage: 0,

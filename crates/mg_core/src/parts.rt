@@ -1,6 +1,7 @@
 //! What an engine has.
 
 use mg_base::{Disk, Markers, TxNo, TxState};
+use mg_directory::Directories;
 use mg_model::Table;
 use mg_snap::Live;
 use mg_space::Store;
@@ -20,6 +21,8 @@ pub struct Core<D> {
     pub waits: Waits,
     /// The active ones.
     pub works: Works,
+    /// The records of tables by the bytes of their keys, as far as they are noted.
+    pub directories: Directories,
     /// The table of the catalog, which stands where the header says.
     pub catalog: Table,
     /// Those of the header when the database was opened.

@@ -4,7 +4,7 @@ ghost use Rattle.std.specs.Prelude.{◌≡◌, ◌<◌, ◌≤◌, None, MatchRe
 ghost use Rattle.mg_records.specs.Writing.{FitsShape};
 ghost use Rattle.mg_works.specs.Works.{MayBeGiven};
 ghost use Rattle.mg_core.specs.Cores.{IsCore};
-ghost use Rattle.mg_core.specs.Putting.{FailsKept, FailsPut, LaysKept, PutsRow};
+ghost use Rattle.mg_core.specs.Putting.{FailsKept, FailsPut, LaysKept, LaysKeptIn, NotesRow, PutsRow};
 
 use crate::parts::Core;
 use crate::states::StatesOf;
@@ -12,6 +12,7 @@ use mg_base::{Disk, GREATEST_LIMIT, PageNo, RecId, TxNo};
 use mg_model::{Refusal, Table};
 use mg_records::Write;
 use mg_row_writes::{Before, before_at, lay, may_be_stored, stored_version, unlawful};
+use mg_sortkey::key_bytes;
 use mg_space::SpaceFault;
 use mg_value::Key;
 use mg_version::Version;
@@ -44,12 +45,31 @@ impl<D: Disk> Core<D> {
         };
         let states = StatesOf::new(&self.list);
         match before_at(&mut self.store, table, rec, &states, &self.live, t) {
-            Ok(before) => self.lay_kept(t, table.pointer, key, before, &version),
+            Ok(before) => {
+                let at = self.lay_kept(t, table.pointer, key, before, &version)?;
+                self.note_row(table.pointer, key, at);
+                Ok(())
+            }
             Err(fault) => Err(self.refuse(fault)),
         }
     }
 
-    /// Keeps what a transaction's own change of a key was, takes back the asking for its commit, and lays a version.
+    /// Notes the record of a row under its key, if the table has a directory. It is noted whenever a row is
+    /// written there: so nobody asks who spoke for the key before. What can't be noted drops the directory.
+    fn note_row(&mut self, first: PageNo, key: &Key, rec: RecId)
+        requires core { IsCore D.meaning self.old }
+        ensures core { IsCore D.meaning self.new }
+        ensures notes { NotesRow self.old self.new first.0 key.now rec }
+    {
+        let mut bytes = Vec::new(self.store.alloc());
+        match key_bytes(key.value(), &mut bytes) {
+            Ok(()) => self.directories.note(first, &bytes, rec),
+            Err(_) => self.directories.drop_table(first),
+        }
+    }
+
+    /// Keeps what a transaction's own change of a key was, takes back the asking for its commit, and lays a version;
+    /// the record is told in which that was.
     /// What was kept is taken back where the version is not laid.
     ///
     /// # Errors
@@ -62,14 +82,14 @@ impl<D: Disk> Core<D> {
         key: &Key,
         before: Before,
         version: &Version,
-    ) -> Result<(), Refusal>
+    ) -> Result<RecId, Refusal>
         requires core { IsCore D.meaning self.old }
         requires owner { owner.0 < GREATEST_LIMIT }
         requires apart { version.now.primary ≡ false }
         requires stored { 1 ≤ version.now.format }
         ensures core { IsCore D.meaning self.new }
         ensures lays { MatchResult result
-            (λ _. LaysKept D.meaning self.old self.new t.0 owner.0 key.now before version.now)
+            (LaysKeptIn D.meaning self.old self.new t.0 owner.0 key.now before version.now)
             (FailsKept D.meaning self.old self.new t.0 owner.0 key.now before version.now) }
     {
         if !may_be_stored(self.store.geometry().size, owner, version) {
@@ -84,7 +104,7 @@ impl<D: Disk> Core<D> {
         // Its new pages have no mark of a commit that was asked for.
         self.works.unask(t);
         match lay(&mut self.store, owner, way, version) {
-            Ok(()) => Ok(()),
+            Ok(rec) => Ok(rec),
             Err(fault) => {
                 self.works.retract(t);
                 Err(self.refuse(fault))

@@ -1,20 +1,25 @@
 //! A row is written.
 
-ghost use Rattle.std.specs.Prelude.{◌≡◌, ◌≢◌, IfOk, IfErr, MatchOption, MatchResult, None, Some, OnOk, if◌then◌else◌};
+ghost use Rattle.std.specs.Option.{option_copied, option_map};
+ghost use Rattle.std.specs.Prelude.{◌≡◌, ◌≢◌, IfOk, IfErr, IfSome, MatchOption, MatchResult, None, Some, OnOk, if◌then◌else◌};
 ghost use Rattle.mg_base.specs.declared.transaction.TxState.TheVariants.{Active as IsActive};
+ghost use Rattle.mg_directory.specs.Candidates.{at_key, by_table};
 ghost use Rattle.mg_records.specs.Writing.{FitsShape};
 ghost use Rattle.mg_row_writes.specs.Storing.{written_at};
+ghost use Rattle.mg_sortkey.specs.KeyBytes.{key_bytes as bytes_of_key};
 ghost use Rattle.mg_txlist.specs.TxList.{said};
 ghost use Rattle.mg_works.specs.Works.{MayBeGiven};
 ghost use Rattle.mg_core.specs.Cores.{IsCore};
-ghost use Rattle.mg_core.specs.Writing.{Allows, FailsKey, FailsRow, FailsWrite, FindsRow, IsWrong, MayOnlyRead, MayWrite, NamesKey, Writes};
+ghost use Rattle.mg_core.specs.Reading.{FailsReading};
+ghost use Rattle.mg_core.specs.Writing.{Allows, FailsKey, FailsRow, FailsWrite, FindsRow, IsWrong, MayOnlyRead, MayWrite, NamesKey, ReadsKnown, WhyOfKnown, Writes};
 
 use crate::parts::Core;
 use crate::states::StatesOf;
 use mg_base::{Disk, RecId, TxNo};
 use mg_model::{Refusal, Table};
 use mg_records::Write;
-use mg_row_writes::{row_at, unlawful, written_key};
+use mg_row_writes::{RowAt, row_at, unlawful, written_key};
+use mg_sortkey::key_bytes;
 use mg_space::SpaceFault;
 use mg_value::{Key, Value};
 
@@ -110,15 +115,69 @@ impl<D: Disk> Core<D> {
         ensures finds { MatchResult result (FindsRow D.meaning self.old self.new t table.now key.now write.now)
             (FailsRow D.meaning self.old self.new t table.now key.now write.now) }
     {
-        let states = StatesOf::new(&self.list);
-        let found = match row_at(&mut self.store, table, key.value(), &states, &self.live, t) {
-            Ok(found) => found,
-            Err(fault) => return Err(self.refuse(fault)),
-        };
+        let found = self.row_of_key(t, table, key)?;
         match refusal_of(write, found.row.is_some()) {
             None => Ok(found.rec),
             Some(refusal) => Err(refusal),
         }
+    }
+
+    /// The record that speaks for a key, with the row in the view. It is looked for among the candidates that
+    /// the table's directory has, or among all its records where it has none.
+    ///
+    /// # Errors
+    ///
+    /// What the reading is refused for.
+    pub fn row_of_key(&mut self, t: TxNo, table: &Table, key: &Key) -> Result<RowAt, Refusal>
+        requires core { IsCore D.meaning self.old }
+        requires given { MayBeGiven table.now }
+        ensures core { IsCore D.meaning self.new }
+        ensures reads { MatchResult result (ReadsKnown D.meaning self.old self.new t table.now key.now)
+            (FailsReading D.meaning self.old self.new (WhyOfKnown D.meaning self.old t table.now key.now)) }
+    {
+        let candidates = self.candidates_for(table, key);
+        let recs = slice_of(&candidates);
+        let states = StatesOf::new(&self.list);
+        match row_at(
+            &mut self.store,
+            table,
+            key.value(),
+            &states,
+            &self.live,
+            t,
+            recs,
+        ) {
+            Ok(found) => Ok(found),
+            Err(fault) => Err(self.refuse(fault)),
+        }
+    }
+
+    /// The candidates for a key among the records of a table. None where the table has no directory, and
+    /// for want of memory: then its records are gone through.
+    fn candidates_for(&self, table: &Table, key: &Key) -> Option<Vec<RecId>>
+        ensures { IfSome result (λ recs. at_key (by_table self.now.directories.dirs table.now.pointer.0)
+            (bytes_of_key key.now) ≡ Some recs.items) }
+    {
+        let alloc = self.store.alloc();
+        let mut bytes = Vec::new(alloc);
+        match key_bytes(key.value(), &mut bytes) {
+            Ok(()) => {}
+            Err(_) => return None,
+        }
+        match self.directories.candidates(alloc, table.pointer, &bytes) {
+            Ok(found) => found,
+            Err(_) => None,
+        }
+    }
+}
+
+/// The records of a list that may be there.
+fn slice_of(recs: &Option<Vec<RecId>>) -> Option<&[RecId]>
+    ensures { option_copied result ≡ option_map (λ list. list.items) recs.now }
+{
+    match recs {
+        None => None,
+        Some(list) => Some(list.as_slice()),
     }
 }
 

@@ -19,6 +19,7 @@ use Rattle.mg_space.specs.declared.fault.SpaceFault.{SpaceFault}
 use Rattle.mg_space.specs.declared.fault.SpaceFault.TheVariants as faults
 use Rattle.mg_value.specs.declared.value.Value.{Value}
 use Rattle.mg_chain.specs.Refusals.{RefusesChain}
+use Rattle.mg_seek.specs.Candidates.{AreEnough}
 use Rattle.mg_seek.specs.Refusals.{RefusesRecord, bad_body, bad_chain}
 use Rattle.mg_seek.specs.Rows.{RefusesRowOf}
 use Rattle.mg_seek.specs.Speaking.{IsSpeaker}
@@ -28,7 +29,7 @@ use Rattle.mg_seek.specs.declared.views.Obstacle.{Obstacle}
 use Rattle.mg_seek.specs.declared.whose.Wanted.TheVariants.{Any}
 use Rattle.mg_row_writes.specs.Befores.{IsBeforeBy, IsBeforeIn, IsBeforeOf, OwnBefore, before_other}
 use Rattle.mg_row_writes.specs.declared.before.Before.{Before}
-use Rattle.mg_row_writes.specs.Finding.{IsInWay, IsObstacleAt, RefusesObstacleAt, RefusesWay, way_unread}
+use Rattle.mg_row_writes.specs.Finding.{IsInWay, IsObstacleAt, MayTell, RefusesObstacleAt, RefusesWay, way_unread}
 
 -- a fault that a call met is handed on
 pub handed_on : {T : Type 0} (result : Result T SpaceFault) (fault : SpaceFault)
@@ -50,6 +51,12 @@ through_empty store image batch result P Q empty given =
     (P (λ n. unwrap_or (content_in pages n) (shown store.dirty image n)))
     (Q pages (λ n. unwrap_or (content_in pages n) (shown store.dirty image n))) in
     subst R empty given
+
+-- candidates that are given are enough
+pub are_enough : (state : ℕ → TxState) (live : State) (view : Pages) (table : Table) (key : Value)
+    (given : Option (List RecId)) (candidates : List RecId) → given ≡ Some candidates
+    → MayTell state live view table key given → AreEnough state live view table key candidates
+are_enough state live view table key given candidates is may = subst (MayTell state live view table key) is may
 
 -- what is seen once pages were read was seen before
 pub as_before : {D L : Type 0} (m : Meaning D) (a b : Pool D L) (image : Image) (P : Pages → Type 0)

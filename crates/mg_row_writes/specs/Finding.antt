@@ -11,6 +11,7 @@ use Rattle.mg_pool.specs.declared.pool.Pool.{Pool}
 use Rattle.mg_snap.specs.Live.{State}
 use Rattle.mg_space.specs.declared.fault.SpaceFault.{SpaceFault}
 use Rattle.mg_value.specs.declared.value.Value.{Value}
+use Rattle.mg_seek.specs.Candidates.{AreEnough}
 use Rattle.mg_seek.specs.Refusals.{RefusesRecord}
 use Rattle.mg_seek.specs.Speaking.{IsSpeaker, RefusesTableRows}
 use Rattle.mg_seek.specs.Versions.{wants}
@@ -18,6 +19,13 @@ use Rattle.mg_seek.specs.Views.{IsObstacle, IsRowSeen}
 use Rattle.mg_seek.specs.declared.views.Obstacle.{Obstacle}
 use Rattle.mg_seek.specs.declared.whose.Wanted.TheVariants.{Living, SeenBy}
 use Rattle.mg_row_writes.specs.declared.finding.RowAt.{RowAt}
+
+-- ---- candidates
+
+-- candidates are enough, if there are any; without them each record of the table is looked at
+abbrev pub MayTell : (ℕ → TxState) → State → Pages → Table → Value → Option (List RecId) → Type 0
+MayTell state live view table key None = Unit {0}
+MayTell state live view table key (Some candidates) = AreEnough state live view table key candidates
 
 -- ---- obstacles
 

@@ -1,5 +1,5 @@
 -- A version comes into the record of its key.
-use Rattle.std.specs.Prelude.{ℕ}
+use Rattle.std.specs.Prelude.{◌≡◌, ℕ, Result, Ok, Err}
 use Rattle.mg_base.specs.Disk.{Meaning}
 use Rattle.mg_base.specs.declared.numbers.RecId.{RecId}
 use Rattle.mg_pool.specs.declared.pool.Pool.{Pool}
@@ -31,6 +31,25 @@ Lays m before after owner ways.Make v = LaysNew m before after owner v
 Lays m before after owner (ways.Push rec) v = PushesOver m before after rec v
 Lays m before after owner (ways.PushOverDead rec) v = LaysOverDead m before after rec v
 Lays m before after owner (ways.Replace rec) v = ReplacesNewest m before after rec v
+
+-- the record that a version came into: the one that was made, or the one that was there
+abbrev pub laid_in : {D : Type 0} (m : Meaning D) (before after : Pool D FireLinks) (owner : ℕ) (way : Way)
+    (v : Version) → Lays m before after owner way v → RecId
+laid_in m before after owner ways.Make v lays = lays.at
+laid_in m before after owner (ways.Push rec) v lays = rec
+laid_in m before after owner (ways.PushOverDead rec) v lays = rec
+laid_in m before after owner (ways.Replace rec) v lays = rec
+
+-- A version comes into this record, on its way.
+pub record LaysIn {D : Type 0} (m : Meaning D) (before after : Pool D FireLinks) (owner : ℕ) (way : Way)
+    (v : Version) (rec : RecId) : Type 0 where
+  pub lays : Lays m before after owner way v
+  pub at : rec ≡ laid_in m before after owner way v lays
+
+-- the record, where what was to be done in it is done
+abbrev pub told_of : RecId → Result (Unit {0}) SpaceFault → Result RecId SpaceFault
+told_of rec (Ok x) = Ok rec
+told_of rec (Err fault) = Err fault
 
 -- a record is not made: no place is taken, or one is, which holds nothing
 pub data FailsNew {D : Type 0} (m : Meaning D) (before after : Pool D FireLinks) (owner : ℕ) (v : Version)

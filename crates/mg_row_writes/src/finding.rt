@@ -1,5 +1,6 @@
 //! What a write finds at its key.
 
+ghost use Rattle.std.specs.Option.{option_copied};
 ghost use Rattle.std.specs.Prelude.{◌≡◌, ◌≤◌, ◌<◌, [], None, MatchResult, length};
 ghost use Rattle.mg_base.specs.Image.{Image};
 ghost use Rattle.mg_heap.specs.Reading.{ReadsData};
@@ -9,13 +10,13 @@ ghost use Rattle.mg_space.specs.Taking.{IsGeometry};
 ghost use Rattle.mg_space.specs.View.{KeepsStore, Tells, pool_answer};
 ghost use Rattle.mg_seek.specs.Speaking.{IsSpeaker, RefusesTableRows};
 ghost use Rattle.mg_seek.specs.Versions.{wants};
-ghost use Rattle.mg_row_writes.specs.Finding.{IsInWay, IsObstacleAt, IsRowAt, IsSeenIn, RefusesObstacleAt, RefusesRowAt, RefusesSeen, RefusesWay};
+ghost use Rattle.mg_row_writes.specs.Finding.{IsInWay, IsObstacleAt, IsRowAt, IsSeenIn, MayTell, RefusesObstacleAt, RefusesRowAt, RefusesSeen, RefusesWay};
 
 use mg_base::{Disk, GREATEST_LIMIT, RecId, TxNo};
 use mg_chain::States;
 use mg_model::Table;
 use mg_pool::Batch;
-use mg_seek::{Obstacle, Wanted, obstacle_for, row_in_view, speaker};
+use mg_seek::{Obstacle, Wanted, obstacle_for, row_in_view, speaker, speaker_among_candidates};
 use mg_snap::Live;
 use mg_space::{SpaceFault, Store};
 use mg_value::{MOST_COLUMNS, Row, Value};
@@ -29,13 +30,15 @@ pub struct RowAt {
     pub row: Option<Row>,
 }
 
-/// The record of a table that speaks for a key, as the cache shows the pages.
+/// The record of a table that speaks for a key, as the cache shows the pages: one of the candidates,
+/// where there are some that are enough.
 fn speaker_at<D: Disk, S: States>(
     store: &mut Store<D>,
     table: &Table,
     key: &Value,
     states: &S,
     live: &Live,
+    candidates: Option<&[RecId]>,
 ) -> Result<Option<RecId>, SpaceFault>
     requires pool { IsPool D.meaning store.old }
     requires geometry { IsGeometry store.old.geometry }
@@ -45,13 +48,18 @@ fn speaker_at<D: Disk, S: States>(
     ensures keeps { KeepsStore D.meaning store.old store.new }
     ensures fault { TellsFault D.meaning store.old store.new (pool_answer result) }
     ensures own { ReadsData result }
-    ensures gives { (image : Image) → Tells D.meaning store.old.disk image → MatchResult result
+    ensures gives { (image : Image) → Tells D.meaning store.old.disk image
+        → MayTell (S.state_of states.now) live.now (shown store.old.dirty image) table.now key.now
+        (option_copied candidates.entry) → MatchResult result
         (IsSpeaker (S.state_of states.now) live.now (shown store.old.dirty image) table.now key.now)
         (RefusesTableRows D.meaning store.new [] (shown store.old.dirty image)
         (wants (S.state_of states.now) live.now Wanted.Living) table.now) }
 {
     let batch = Batch::new(store.alloc());
-    speaker(store, &batch, table, key, states, live)
+    match candidates {
+        None => speaker(store, &batch, table, key, states, live),
+        Some(recs) => speaker_among_candidates(store, &batch, table, key, states, live, recs),
+    }
 }
 
 /// The obstacle of a record for t. None where there is no record.
@@ -84,11 +92,12 @@ pub fn obstacle_of_record<D: Disk, S: States>(
     obstacle_for(store, &batch, rec, states, live, t)
 }
 
-/// The obstacle of a key of a table for t: that of the record that speaks for the key.
+/// The obstacle of a key of a table for t: that of the record that speaks for the key. That is looked for
+/// among the candidates, where there are some.
 ///
 /// # Errors
 ///
-/// As `speaker` and `obstacle_for` of mg_seek.
+/// As `speaker` or `speaker_among_candidates`, and `obstacle_for` of mg_seek.
 pub fn obstacle_at<D: Disk, S: States>(
     store: &mut Store<D>,
     table: &Table,
@@ -96,6 +105,7 @@ pub fn obstacle_at<D: Disk, S: States>(
     states: &S,
     live: &Live,
     t: TxNo,
+    candidates: Option<&[RecId]>,
 ) -> Result<Option<Obstacle>, SpaceFault>
     requires pool { IsPool D.meaning store.old }
     requires geometry { IsGeometry store.old.geometry }
@@ -105,12 +115,14 @@ pub fn obstacle_at<D: Disk, S: States>(
     ensures keeps { KeepsStore D.meaning store.old store.new }
     ensures fault { TellsFault D.meaning store.old store.new (pool_answer result) }
     ensures own { ReadsData result }
-    ensures gives { (image : Image) → Tells D.meaning store.old.disk image → MatchResult result
+    ensures gives { (image : Image) → Tells D.meaning store.old.disk image
+        → MayTell (S.state_of states.now) live.now (shown store.old.dirty image) table.now key.now
+        (option_copied candidates.entry) → MatchResult result
         (IsObstacleAt (S.state_of states.now) live.now t.0 (shown store.old.dirty image) table.now key.now)
         (RefusesObstacleAt D.meaning store.new (shown store.old.dirty image)
         (S.state_of states.now) live.now table.now key.now) }
 {
-    let rec = speaker_at(store, table, key, states, live)?;
+    let rec = speaker_at(store, table, key, states, live, candidates)?;
     obstacle_of_record(store, rec, states, live, t)
 }
 
@@ -143,11 +155,12 @@ fn row_seen<D: Disk, S: States>(
     row_in_view(store, &batch, table, rec, states, live, t)
 }
 
-/// The record of a table that speaks for a key, with the row that t sees there.
+/// The record of a table that speaks for a key, with the row that t sees there. The record is looked for
+/// among the candidates, where there are some.
 ///
 /// # Errors
 ///
-/// As `speaker` and `row_in_view` of mg_seek.
+/// As `speaker` or `speaker_among_candidates`, and `row_in_view` of mg_seek.
 pub fn row_at<D: Disk, S: States>(
     store: &mut Store<D>,
     table: &Table,
@@ -155,6 +168,7 @@ pub fn row_at<D: Disk, S: States>(
     states: &S,
     live: &Live,
     t: TxNo,
+    candidates: Option<&[RecId]>,
 ) -> Result<RowAt, SpaceFault>
     requires pool { IsPool D.meaning store.old }
     requires geometry { IsGeometry store.old.geometry }
@@ -164,12 +178,14 @@ pub fn row_at<D: Disk, S: States>(
     ensures keeps { KeepsStore D.meaning store.old store.new }
     ensures fault { TellsFault D.meaning store.old store.new (pool_answer result) }
     ensures own { ReadsData result }
-    ensures gives { (image : Image) → Tells D.meaning store.old.disk image → MatchResult result
+    ensures gives { (image : Image) → Tells D.meaning store.old.disk image
+        → MayTell (S.state_of states.now) live.now (shown store.old.dirty image) table.now key.now
+        (option_copied candidates.entry) → MatchResult result
         (IsRowAt (S.state_of states.now) live.now t (shown store.old.dirty image) table.now key.now)
         (RefusesRowAt D.meaning store.new (shown store.old.dirty image)
         (S.state_of states.now) live.now t table.now key.now) }
 {
-    let rec = speaker_at(store, table, key, states, live)?;
+    let rec = speaker_at(store, table, key, states, live, candidates)?;
     let row = row_seen(store, table, rec, states, live, t)?;
     Ok(RowAt { rec, row })
 }

@@ -206,6 +206,7 @@ fn read_key<D: Disk>(core: &mut Core<D>, t: TxNo, key: &Key) -> Result<RowAt, Re
         &states,
         &core.live,
         t,
+        None,
     ) {
         Ok(found) => Ok(found),
         Err(fault) => Err(core.refuse(fault)),

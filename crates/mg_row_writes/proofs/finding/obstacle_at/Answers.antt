@@ -13,19 +13,19 @@ use Rattle.mg_base.specs.declared.numbers.RecId.{RecId}
 use Rattle.mg_row_writes.proofs.finding.obstacle_at.Goals as goal
 
 pub returns-in_err-rec-clause-gives : goal.returns-in_err-rec-clause-gives
-returns-in_err-rec-clause-gives g c = λ image tells. handed_on c.from_residual.result c.in_err-rec.field-0.0
+returns-in_err-rec-clause-gives g c = λ image tells may. handed_on c.from_residual.result c.in_err-rec.field-0.0
     (IsObstacleAt (g.S.States.state_of c.args.states.now) c.args.live.now c.args.t.0
     (shown c.args.store.now.dirty image) c.args.table.now c.args.key.now)
     (RefusesObstacleAt g.D.Disk.meaning c.speaker_at.new.store
     (shown c.args.store.now.dirty image) (g.S.States.state_of c.args.states.now) c.args.live.now c.args.table.now
     c.args.key.now)
-    c.from_residual.ensures.0 c.from_residual.ensures.1 (way_unspoken (c.in_err-rec.ensures.gives image tells))
+    c.from_residual.ensures.0 c.from_residual.ensures.1 (way_unspoken (c.in_err-rec.ensures.gives image tells may))
 
 pub returns-clause-gives : goal.returns-clause-gives
-returns-clause-gives g c = λ image tells. obstacle_comes g.D.Disk.meaning c.obstacle_of_record.new.store
+returns-clause-gives g c = λ image tells may. obstacle_comes g.D.Disk.meaning c.obstacle_of_record.new.store
     (shown c.args.store.now.dirty image) (g.S.States.state_of c.args.states.now)
     c.args.live.now c.args.t.0 c.args.table.now c.args.key.now c.in_ok-rec.rec c.obstacle_of_record.result
-    (c.in_ok-rec.ensures.gives image tells)
+    (c.in_ok-rec.ensures.gives image tells may)
     (as_before g.D.Disk.meaning c.args.store.now c.speaker_at.new.store image
     (λ (view : Pages). MatchResult c.obstacle_of_record.result
     (IsInWay (g.S.States.state_of c.args.states.now) c.args.live.now c.args.t.0 view c.in_ok-rec.rec)

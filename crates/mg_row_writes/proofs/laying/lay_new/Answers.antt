@@ -15,7 +15,8 @@ returns-in_err-at-clause-lays g c = handed_on c.from_residual.result c.in_err-at
 pub returns-clause-lays : goal.returns-clause-lays
 returns-clause-lays g c = laid_new g.D.Disk.meaning c.args.store.now c.take_place.new.store
     c.make_first.new.store c.args.owner.0 c.in_ok-at.at
-    c.args.v.now c.make_first.result c.in_ok-at.ensures.takes c.make_first.ensures.makes
+    c.args.v.now c.make_first.result c.in_record.result c.in_record.ensures c.in_ok-at.ensures.takes
+    c.make_first.ensures.makes
 
 pub returns-in_err-at-clause-pool : goal.returns-in_err-at-clause-pool
 returns-in_err-at-clause-pool g c = c.take_place.ensures.pool

@@ -18,7 +18,7 @@ returns-in-Ok-clause-reads g c = record {
   told = λ image tells. subst (λ (k : Value). IsRowAt (said c.args.core.now.list) c.args.core.now.live c.args.t
       (shown c.args.core.now.store.dirty image) c.args.core.now.catalog k c.in-Ok.found) c.value.ensures.value
       (subst (λ (l : TxList). IsRowAt (said l) c.args.core.now.live c.args.t (shown c.args.core.now.store.dirty image)
-      c.args.core.now.catalog c.value.result.now c.in-Ok.found) c.new-states.ensures (c.in-Ok.ensures.gives image tells));
+      c.args.core.now.catalog c.value.result.now c.in-Ok.found) c.new-states.ensures (c.in-Ok.ensures.gives image tells tt));
 }
 
 pub returns-in-Err-clause-core : goal.returns-in-Err-clause-core
@@ -34,5 +34,5 @@ returns-in-Err-clause-reads g c = fails_reading RowAt g.D.Disk.meaning c.args.co
     c.args.core.now.catalog k c.in-Err.fault) c.value.ensures.value
     (subst (λ (l : TxList). RefusesRowAt g.D.Disk.meaning c.row_at.new.store
     (shown c.args.core.now.store.dirty image) (said l) c.args.core.now.live c.args.t c.args.core.now.catalog
-    c.value.result.now c.in-Err.fault) c.new-states.ensures (c.in-Err.ensures.gives image tells)))
+    c.value.result.now c.in-Err.fault) c.new-states.ensures (c.in-Err.ensures.gives image tells tt)))
     c.refuse.ensures.refusal c.refuse.ensures.counts c.refuse.ensures.same

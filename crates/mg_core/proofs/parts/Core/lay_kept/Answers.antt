@@ -1,4 +1,7 @@
-use Rattle.std.proofs.Common.{refl}
+use Rattle.std.proofs.Common.{◌≡◌, ◌∙◌, List, ap, refl, subst}
+use Rattle.mg_base.specs.declared.geometry.Geometry.{Geometry}
+use Rattle.mg_row_writes.specs.Storing.{MayBeStored}
+use Rattle.mg_works.specs.Works.{Working, unasked, with_work}
 use Rattle.mg_core.proofs.StageLemmas.{core_on, kept_active, retracted_active}
 use Rattle.mg_core.proofs.parts.Core.lay_kept.Goals as goal
 
@@ -15,3 +18,15 @@ returns-in-Err-lay-clause-core g c = core_on g.D.Disk.meaning c.args.self.now c.
     (retracted_active c.args.self.now.works c.keep.new.self c.unask.new.self c.retract.new.self c.args.t.0 c.args.owner.0
     c.args.key.now c.args.before.was c.in-Ok.ensures.ok c.unask.ensures c.retract.ensures)
     c.refuse-in-Err-lay.ensures.same
+
+pub returns-in-Ok-lay-clause-lays : goal.returns-in-Ok-lay-clause-lays
+returns-in-Ok-lay-clause-lays g c = record {
+  laid = record {
+    may = subst (λ (k : Geometry). MayBeStored k.size c.args.owner.0 c.args.version.now) c.geometry.ensures
+        (c.may_be_stored.ensures.0 c.if-not-may_be_stored.false);
+    lays = c.in-Ok-lay.ensures.lays.lays;
+    same = ap (λ (ws : List Working). record c.args.self.now { store = c.lay.new.store; works = ws })
+        (c.unask.ensures ∙ ap (with_work c.args.t.0 unasked) c.in-Ok.ensures.ok);
+  };
+  at = c.in-Ok-lay.ensures.lays.at;
+}

@@ -23,7 +23,7 @@ returns-in-Ok-obstacle_at-clause-passes g c = at_table (λ (r : Refusal). IsTold
     (λ image tells. subst (λ (k : Value). IsObstacleAt (said c.args.self.now.list) c.args.self.now.live c.args.t.0 (shown c.args.self.now.store.dirty image) c.args.self.now.catalog k
     c.in-Ok-obstacle_at.found) c.in-Ok.ensures
     (subst (λ (l : TxList). IsObstacleAt (said l) c.args.self.now.live c.args.t.0 (shown c.args.self.now.store.dirty image) c.args.self.now.catalog c.in-Ok.key
-    c.in-Ok-obstacle_at.found) c.new-states.ensures (c.in-Ok-obstacle_at.ensures.gives image tells)))
+    c.in-Ok-obstacle_at.found) c.new-states.ensures (c.in-Ok-obstacle_at.ensures.gives image tells tt)))
     c.pass.ensures.passes)
 
 pub returns-clause-passes : goal.returns-clause-passes
@@ -34,5 +34,5 @@ returns-clause-passes g c = inr (unread (fails_reading (Option Obstacle) g.D.Dis
     (said c.args.self.now.list) c.args.self.now.live c.args.self.now.catalog k c.in-Err-obstacle_at.fault) c.in-Ok.ensures
     (subst (λ (l : TxList). RefusesObstacleAt g.D.Disk.meaning c.obstacle_at.new.store (shown c.args.self.now.store.dirty image)
     (said l) c.args.self.now.live c.args.self.now.catalog c.in-Ok.key c.in-Err-obstacle_at.fault) c.new-states.ensures
-    (c.in-Err-obstacle_at.ensures.gives image tells)))
+    (c.in-Err-obstacle_at.ensures.gives image tells tt)))
     c.refuse.ensures.refusal c.refuse.ensures.counts c.refuse.ensures.same))
