@@ -1,10 +1,16 @@
 -- The pages of transactions stay, and tables stay plain, key after key.
-use Rattle.std.proofs.Common.{◌≡◌, ◌∙◌, ◌⊎◌, inl, inr, refl, subst, ℕ, List, [], ◌∷◌, Option, Some}
+use Rattle.std.proofs.Common.{◌≡◌, ◌≢◌, ◌∙◌, ◌⊎◌, inl, inr, refl, subst, sym, ℕ, List, [], ◌∷◌, Option, Some}
 use Rattle.mg_base.specs.Disk.{Meaning}
 use Rattle.mg_base.specs.Image.{Image}
 use Rattle.mg_base.specs.declared.numbers.RecId.{RecId}
 use Rattle.mg_base.specs.declared.transaction.TxState.{TxState}
-use Rattle.mg_chain.specs.Writing.{Moves, OverwritesOrMoves, PutsAt, Replaces, link_to}
+use Rattle.mg_engine_changes.specs.DirectoryChanges.{back_noted}
+use Rattle.mg_image_overlays.specs.OwnVersion.{FindsNewest}
+use Rattle.mg_ties.specs.Newest.{newest_found}
+use Rattle.mg_version.specs.declared.cell.Link.{Link}
+use Rattle.mg_version.specs.declared.cell.Version.{Version}
+use Rattle.mg_image.specs.Sound.{facts_by}
+use Rattle.mg_chain.specs.Writing.{HasNewest, Moves, OverwritesOrMoves, PutsAt, Replaces, link_to}
 use Rattle.mg_ties.specs.BackTies as back_ties
 use Rattle.mg_ties.specs.MoveTies.{moves_pages, puts, some_grows}
 use Rattle.mg_ties.specs.PlaceTies.{replaces_page}
@@ -178,6 +184,7 @@ module _ {D L : Type 0} (m : Meaning D) (one : RowsAreOne packed_coding) (move :
       catalog = second.tips.catalog ∙ first.tips.catalog;
     };
     plain = λ bare. second.plain (first.plain bare);
+    noted = λ dirs was. second.noted dirs (first.noted dirs was);
   }
 
   -- one key, at the size of the cache
@@ -196,8 +203,26 @@ module _ {D L : Type 0} (m : Meaning D) (one : RowsAreOne packed_coding) (move :
         at_key.layout at_key.reading rec back.es table at_key.sound back.reads at_key.of_table at_key.may.no_catalog
         (λ chosen. pool_is_kept packed_form D L ready.geometry.size o (again t left (e ∷ h)) s.state asked session
         ready i chosen midway.cache.kept);
+    noted = back_noted one_way ready.geometry.size s.state (shown ready.dirty i) (shown after.dirty j) at_key.layout
+        at_key.reading at_key.sound rec back.es back.reads table back.of (has_versions how)
+        (λ some. back.key_stays some ∙ sym back.keyed);
   }
     where
+      -- its newest version was met
+      met : (newest : Link) (owner : ℕ) (v : Version)
+          → HasNewest (viewed ready i fresh) rec newest owner v → at_key.reading rec ≢ []
+      met newest owner v its none =
+          let it : FindsNewest (facts_by (left_state everyone s.state) (shown ready.dirty i) at_key.layout)
+          at_key.reading rec table newest.rec v =
+          newest_found packed_form ready.geometry.size (left_state everyone s.state) (shown ready.dirty i)
+          at_key.layout at_key.reading at_key.sound rec table at_key.of_table newest its.head.slot v its.meets.cell in
+          let both : it.newest ∷ it.older ≡ [] = sym it.first ∙ none in absurd cc
+
+      has_versions : GoesOut ready i batch o h e t name key rec ⊎ ComesBack ready i batch o h e t name key rec table
+          → at_key.reading rec ≢ []
+      has_versions (inl goes_) = met goes_.takes.newest goes_.takes.owner goes_.takes.was goes_.takes.its
+      has_versions (inr comes) = met comes.replaces.newest comes.replaces.owner comes.replaces.was comes.replaces.its
+
       back : TakesKeyBack packed_form ready.geometry.size o h e t s (shown ready.dirty i) (shown after.dirty j)
           at_key.layout at_key.reading first.versions.speaker name key rec table
       back = takes_back ready after i j name key left batch was rec table at_key how midway.cache
@@ -228,6 +253,7 @@ module _ {D L : Type 0} (m : Meaning D) (one : RowsAreOne packed_coding) (move :
   lists_self size pages = record {
     tips = record { tips = λ sequence below. (refl, refl); next = refl; catalog = refl };
     plain = λ bare. bare;
+    noted = λ dirs was. was;
   }
 
   pub all_keep : ReadsLast D L m packed_form → (size : ℕ) (first : ShowsHistory packed_form size o h s begun)

@@ -9,7 +9,7 @@ use Rattle.mg_base.specs.declared.transaction.TxState.TheVariants.{Active, Commi
 use Rattle.mg_engine_steps.specs.TableAnswers.{shown_key}
 use Rattle.mg_engine_changes.specs.BackTables.{ItsTablesMayBeWritten}
 use Rattle.mg_engine_meaning.specs.PlainTables.{HasPlainTables}
-use Rattle.mg_engine_changes.specs.ChoiceTables.{none_by_rows, stands_by_committed, stands_by_row}
+use Rattle.mg_noted.specs.ChoiceTables.{none_by_rows, stands_by_committed, stands_by_row}
 use Rattle.mg_engine_changes.specs.OwnerLaws.{IsLimboRow}
 use Rattle.mg_engine_steps.specs.Knowing.{HasRowsOf, MayWriteInto}
 use Rattle.mg_image_overlays.specs.Growing.{IsTableOf}

@@ -75,13 +75,15 @@ use Rattle.mg_version.specs.declared.cell.Link.{Link}
 use Rattle.mg_version.specs.declared.cell.Version.{Version}
 use Rattle.mg_engine_meaning.specs.PlainTables.{HasPlainTables}
 use Rattle.mg_engine_meaning.specs.Standings.{HasTips}
-use Rattle.mg_engine_changes.specs.ChoiceTables.{stands_by_committed}
+use Rattle.mg_noted.specs.ChoiceTables.{stands_by_committed}
 use Rattle.mg_engine_changes.specs.Clearing.{HasCleared, HasSettled}
 use Rattle.mg_engine_changes.specs.OwnerLaws.{committed_only}
 use Rattle.mg_engine_changes.specs.Plain.{WritesKeepPlain}
 use Rattle.mg_engine_changes.specs.TipLaws.{taking_out_keeps_tips}
 use Rattle.mg_engine_changes.specs.Tips.{KeepsTips}
 use Rattle.mg_engine_changes.specs.WalkLaws.{same_walk_on, unseen}
+use Rattle.mg_engine_changes.specs.DirectoryChanges.{taken_keeps}
+use Rattle.mg_image_overlays.specs.OneLayout.{StandsOneWay}
 use Rattle.mg_engine_changes.specs.Walks.{OthersWalkOn}
 
 none_there : HasNoSequences packed_form
@@ -110,7 +112,7 @@ pub record LivesBehind (older : List Entry) (lives : Entry) : Type 0 where
   pub is_ : older ≡ head ∷ rest
   pub same : head ≡ lives
 
-module _ (one : RowsAreOne packed_coding) (on : TipsStayOn) (behind : BehindKeepsTips) (lists_stay : ListsStay)
+module _ (one : RowsAreOne packed_coding) (one_way : StandsOneWay packed_form) (on : TipsStayOn) (behind : BehindKeepsTips) (lists_stay : ListsStay)
     (keep_plain : WritesKeepPlain) (speak : SpeakersOfReadings) {D : Type 0} (m : Meaning D)
     (deads : DeadsGo packed_form D FireLinks m) (o : Opening) (h : Entries) (s : Standing)
     (before after : Pool D FireLinks) (i j : Image) (batch : Changed) (list : TxList) (asked : Asked)
@@ -352,6 +354,8 @@ module _ (one : RowsAreOne packed_coding) (on : TipsStayOn) (behind : BehindKeep
     lasts = stayed.lasts;
     leaves = stayed.leaves;
     others = others_on;
+    noted = taken_keeps one_way size s.state pool later shows.layout shows.reading shows.sound rec it.older reads.0
+        it.newest it.first;
     settled_of = subst (λ (x : Geometry). HasSettled x.size o h s list (shown after.dirty j) rec its.name key)
         (sym geometry) (record {
           stands = stayed.stands;

@@ -9,6 +9,10 @@ use Rattle.mg_base.specs.declared.numbers.RecId.{RecId}
 use Rattle.mg_base.specs.declared.transaction.TxState.TheVariants.{Active}
 use Rattle.mg_core.specs.Cores.{Continues, IsCore, IsCatalog}
 use Rattle.mg_core.specs.declared.parts.Core.{Core}
+use Rattle.mg_directory.specs.Candidates.{by_table}
+use Rattle.mg_noted.specs.Noted.{HasDirectories}
+use Rattle.mg_engine_changes.specs.Directories.{StaysNoted}
+use Rattle.mg_engine_changes.specs.DirectoryChanges.{left_noted}
 use Rattle.mg_engine_changes.specs.BackLaws.{all_kept, going_kept}
 use Rattle.mg_engine_changes.specs.BackLists.{KeepsLists, KeysKeepLists}
 use Rattle.mg_engine_changes.specs.BackPages.{KeysKeepPages}
@@ -140,7 +144,7 @@ module _ {D : Type 0} (m : Meaning D) (openings : OpeningsBegin) (unask : Unaski
     (first_shows : ShowsFirst packed_form) (what_was : GivesWhatWas) (keys_law : KeysAreTaken) (apart : GivenApart)
     (rows_law : RowsAreLeft) (tell : ListsTellWhole) (takes_all : CoresTakeAll D m) (keep : KeysKeepLists D FireLinks m)
     (rows_taken : CoresTakeRows D m) (follow : TablesFollow) (engines : EnginesTakeTables D FireLinks m)
-    (pages_taken : TablesAreTaken D FireLinks m) (none_left : NoneOfGone)
+    (pages_taken : TablesAreTaken D FireLinks m) (none_left : NoneOfGone) (one_way : StandsOneWay packed_form)
     (old new : Core D) (t : ℕ)
     (point : Point) (o : Opening) (h : Entries) (e : Entry) (core : IsCore m old) (takes : TakesTablesTo m old new t point)
     (stands : StandsFor m old o h) (is : IsBackEntry o h e t point)
@@ -522,6 +526,12 @@ module _ {D : Type 0} (m : Meaning D) (openings : OpeningsBegin) (unask : Unaski
       let stood = step.1.before chosen layout q sound its of in
       taken.knows.plain chosen stood.layout stood.reading stood.sound its stood.of
 
+  noted_now : StaysNoted size (said old.list) pages (shown takes.takes.taken.store.dirty rows.image)
+  noted_now dirs noted = left_noted one_way size (said old.list) t (shown both.mid.store.dirty taken.image)
+      (shown takes.takes.taken.store.dirty rows.image) taken.midway.pages.layout step.1.tables.c
+      taken.midway.pages.reading step.1.tables.rc (is_among takes.takes.keys) taken.midway.pages.sound
+      step.1.tables.leaves step.1.tables.takes step.1.tables.sound dirs (keeps_lists.noted dirs noted)
+
   header_same : (header_of (shown takes.takes.taken.store.dirty rows.image)).catalog.0
       ≡ (header_of (shown both.mid.store.dirty taken.image)).catalog.0
   header_same = ap (λ (bytes : List ℕ). (header_in bytes).catalog.0) step.1.tables.leaves.header
@@ -537,6 +547,9 @@ module _ {D : Type 0} (m : Meaning D) (openings : OpeningsBegin) (unask : Unaski
     catalog = taken.catalog ∙ sym header_same;
     plain_tables = subst (λ (n : ℕ). HasPlainTables n (said old.list) (shown takes.takes.taken.store.dirty rows.image))
         (sym size_now) plain_now;
+    no_directory = shows.no_directory;
+    noted = subst (λ (n : ℕ). HasDirectories n (said old.list) (shown takes.takes.taken.store.dirty rows.image)
+        old.directories) (sym size_now) (noted_now (by_table old.directories.dirs) shows.noted);
   }
 
   -- ---- what is kept
@@ -615,7 +628,7 @@ module _ {D : Type 0} (m : Meaning D) (openings : OpeningsBegin) (unask : Unaski
 
   -- ---- the walks of others
 
-  module _ (one_way : StandsOneWay packed_form) (keep_pages : KeysKeepPages D FireLinks m) (walks : BackWalksGoOn)
+  module _ (keep_pages : KeysKeepPages D FireLinks m) (walks : BackWalksGoOn)
       (tables_walk : TablesWalksGoOn) (not_seen : SeenIsNotMade) where
     same_first : stands_of shows.stands.shows.layout ≡ stands_of midway.pages.layout
     same_first = ap stands_of (one_way size (left_state everyone s.state) pages shows.stands.shows.layout
@@ -686,9 +699,9 @@ pub engines_go_over : {D : Type 0} (m : Meaning D) → OpeningsBegin → Unaskin
     → ListsStay → SinceAreTaken → MidwaysBegin packed_form D FireLinks m → ShowsFirst packed_form → GivesWhatWas
     → KeysAreTaken → GivenApart → RowsAreLeft → ListsTellWhole → CoresTakeAll D m → KeysKeepLists D FireLinks m
     → CoresTakeRows D m → TablesFollow → EnginesTakeTables D FireLinks m → TablesAreTaken D FireLinks m
-    → NoneOfGone → EnginesGoOver D m
+    → NoneOfGone → StandsOneWay packed_form → EnginesGoOver D m
 engines_go_over m openings unask lists since begin first_shows what_was keys_law apart rows_law tell takes_all keep rows_taken follow engines pages_taken none_left
-    old new t point o h e core takes stands is = stands_over m openings unask lists since begin first_shows what_was keys_law apart rows_law tell takes_all keep rows_taken follow engines pages_taken none_left old
+    one_way old new t point o h e core takes stands is = stands_over m openings unask lists since begin first_shows what_was keys_law apart rows_law tell takes_all keep rows_taken follow engines pages_taken none_left one_way old
     new t point o h e core takes stands is (shows_of m old o h stands takes.has_begun.continues.0)
 
 pub others_walk_over : {D : Type 0} (m : Meaning D) → OpeningsBegin → UnaskingLasts packed_form D FireLinks m
@@ -699,6 +712,6 @@ pub others_walk_over : {D : Type 0} (m : Meaning D) → OpeningsBegin → Unaski
     → KeysKeepPages D FireLinks m → BackWalksGoOn → TablesWalksGoOn → SeenIsNotMade → OthersWalkOver D m
 others_walk_over m openings unask lists since begin first_shows what_was keys_law apart rows_law tell takes_all keep rows_taken follow engines pages_taken none_left
     one_way keep_pages walks tables_walk not_seen old new t point o h e core takes stands is i held u ne active table given
-    after rows next = walks_over m openings unask lists since begin first_shows what_was keys_law apart rows_law tell takes_all keep rows_taken follow engines pages_taken none_left old new t point o h e core takes stands is
-    (shows_of m old o h stands takes.has_begun.continues.0) one_way keep_pages walks tables_walk not_seen u ne active table
+    after rows next = walks_over m openings unask lists since begin first_shows what_was keys_law apart rows_law tell takes_all keep rows_taken follow engines pages_taken none_left one_way old new t point o h e core takes stands is
+    (shows_of m old o h stands takes.has_begun.continues.0) keep_pages walks tables_walk not_seen u ne active table
     given i held after rows next

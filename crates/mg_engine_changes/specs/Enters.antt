@@ -89,6 +89,11 @@ use Rattle.mg_engine_changes.specs.Clearing.{HasCleared}
 use Rattle.mg_engine_changes.specs.ClearingLaws.{cleared}
 use Rattle.mg_engine_changes.specs.Codes.{StoredRowsAreCoded}
 use Rattle.mg_engine_changes.specs.Kept.{MadeWritesFollow, NotesWrite, made_by, row_given}
+use Rattle.mg_directory.specs.Candidates.{Kept, NotesOrDrops, by_table}
+use Rattle.mg_image_overlays.specs.OneLayout.{StandsOneWay}
+use Rattle.mg_noted.specs.Noted.{HasDirectories}
+use Rattle.mg_sortkey.specs.KeyBytes.{key_bytes}
+use Rattle.mg_engine_changes.specs.DirectoryChanges.{none_noted}
 use Rattle.mg_engine_changes.specs.Laid.{HasNoted, LeavesPages}
 use Rattle.mg_engine_changes.specs.Owners.{SeenMayBeWritten}
 use Rattle.mg_chain.specs.Writing.{Pushes, Replaces, GivesSpot, MakesRecord, TakesOut}
@@ -353,6 +358,11 @@ module _ (speakers : SpeakersAreTold) (befores : BeforesAreTold) (follow : MadeW
 
   -- ---- it was laid
 
+  -- its record was noted under the key, in directories that are kept from now on
+  abbrev pub NotesIts : Kept → RecId → Type 0
+  NotesIts kept rec = NotesOrDrops (by_table core.directories.dirs) (by_table kept.dirs) table.pointer.0
+      (key_bytes (written_at table write)) rec
+
   -- the table of the change is kept
   kept_now : HasNoted core.works t.0 table → KeepsWritten core.catalog.pointer.0 works_now stands.tables
   kept_now noted = record {
@@ -368,19 +378,20 @@ module _ (speakers : SpeakersAreTold) (befores : BeforesAreTold) (follow : MadeW
       )
       at u (inr ne) = subst (AreTold core.catalog.pointer.0) (sym (others_work u ne)) (stands.kept.told u)
 
-  pub stood : HasNoted core.works t.0 table → (after : Pool D FireLinks) (j : Image) → m.held after.disk ≡ Some j → m.tells after.disk ≡ true
+  pub stood : (kept : Kept) (rec : RecId) → NotesIts kept rec → HasNoted core.works t.0 table → (after : Pool D FireLinks) (j : Image) → m.held after.disk ≡ Some j → m.tells after.disk ≡ true
       → after.offline ≡ None → after.geometry ≡ core.store.geometry
       → HasGoneOn m packed_form core.store.geometry.size o h (made_by t table write) s_now core.store after j
       (asked_in (works_kept t.0 table.pointer.0 (written_at table write) before.was core.works))
       (sessions_in core.works)
       → LeavesPages core.store.geometry.size s t.0 (shown core.store.dirty shows.image)
-      (shown after.dirty j)
+      (shown after.dirty j) there.its.pointer.0 (written_at table write) rec
       → StandsFor m (record core {
         store = after;
         waits = waits;
         works = works_kept t.0 table.pointer.0 (written_at table write) before.was core.works;
+        directories = kept;
       }) o (made_by t table write ∷ h)
-  stood noted after j held told online_after geometry goes leaves = record {
+  stood kept rec notes noted after j held told online_after geometry goes leaves = record {
     tells = told;
     grows = record { limbo = stands.grows.limbo; entries = (makes t table write other, stands.grows.entries) };
     bases = bases_stay o h (made_by t table write) (takes_none t table write) stands.bases;
@@ -388,11 +399,12 @@ module _ (speakers : SpeakersAreTold) (befores : BeforesAreTold) (follow : MadeW
     tables = stands.tables;
     given = λ u n x is. stands.given u n x (sym (all_work (λ (w : Option Working). given_by w n) refl u) ∙ is);
     kept = kept_now noted;
-    stands = subst (λ (off : Option ℕ). StandsWhile m (record core { store = after; waits = waits; works = works_now }) o
+    stands = subst (λ (off : Option ℕ). StandsWhile m
+        (record core { store = after; waits = waits; works = works_now; directories = kept }) o
         (made_by t table write ∷ h) s_now off) (sym online_after) shown_now;
   }
     where
-      shown_now : ShowsIt m (record core { store = after; waits = waits; works = works_now }) o
+      shown_now : ShowsIt m (record core { store = after; waits = waits; works = works_now; directories = kept }) o
           (made_by t table write ∷ h) s_now
       shown_now = record {
         image = j;
@@ -407,6 +419,12 @@ module _ (speakers : SpeakersAreTold) (befores : BeforesAreTold) (follow : MadeW
         catalog = shows.catalog ∙ sym leaves.tips.catalog;
         plain_tables = subst (λ (g : Geometry). HasPlainTables g.size (said core.list) (shown after.dirty j))
             (sym geometry) leaves.plain;
+        no_directory = none_noted (by_table core.directories.dirs) (by_table kept.dirs) table.pointer.0
+            (key_bytes (written_at table write)) rec notes core.catalog.pointer.0 shows.no_directory;
+        noted = subst (λ (g : Geometry). HasDirectories g.size (said core.list) (shown after.dirty j) kept)
+            (sym geometry) (leaves.noted (by_table core.directories.dirs) (by_table kept.dirs) shows.noted
+            (subst (λ (p : PageNo). NotesOrDrops (by_table core.directories.dirs) (by_table kept.dirs) p.0
+            (key_bytes (written_at table write)) rec) (sym there.same.pointer) notes));
       }
 
   -- in a batch of its own
@@ -414,11 +432,12 @@ module _ (speakers : SpeakersAreTold) (befores : BeforesAreTold) (follow : MadeW
     abbrev asked_now : Asked
     asked_now = asked_in (works_kept t.0 table.pointer.0 (written_at table write) before.was core.works)
 
-    abbrev pub Stood : Type 0
-    Stood = StandsFor m (record core {
+    abbrev pub Stood : Kept → Type 0
+    Stood kept = StandsFor m (record core {
       store = after;
       waits = waits;
       works = works_kept t.0 table.pointer.0 (written_at table write) before.was core.works;
+      directories = kept;
     }) o (made_by t table write ∷ h)
         × LeavesSince m core.store.disk after.disk (HoldsAcknowledged packed_form core.store.dirty.size o h)
         × WalkInto m core.store.geometry.size (standing_of core stands.numbers stands.tables)
@@ -448,15 +467,15 @@ module _ (speakers : SpeakersAreTold) (befores : BeforesAreTold) (follow : MadeW
       }
 
       -- by what is told of the image that the disk has then
-      both : ((j : Image) → m.held after.disk ≡ Some j → WasChanged m core.store after shows.image j own_batch.batch
+      both : (kept : Kept) (rec : RecId) → NotesIts kept rec → ((j : Image) → m.held after.disk ≡ Some j → WasChanged m core.store after shows.image j own_batch.batch
           → HasGoneOn m packed_form core.store.geometry.size o h (made_by t table write) s_now core.store after j
           asked_now (sessions_in core.works)
           × LeavesPages core.store.geometry.size s t.0 (shown core.store.dirty shows.image)
-          (shown after.dirty j)) → Stood
-      both goes =
+          (shown after.dirty j) there.its.pointer.0 (written_at table write) rec) → Stood kept
+      both kept rec notes goes =
           let (j, held, left) = holds after.disk told_after in
           let (gone, leaves) = goes j held (was j held) in (
-            stood noted after j held told_after own_batch.changed.online.1
+            stood kept rec notes noted after j held told_after own_batch.changed.online.1
                 (own_batch.changed.geometry ∙ own_batch.keeps.geometry) gone leaves,
             gone.leaves,
             λ u ne also x from rows next. (
@@ -469,15 +488,16 @@ module _ (speakers : SpeakersAreTold) (befores : BeforesAreTold) (follow : MadeW
           )
 
     -- over a committed version of the record that speaks for the key
-    module _ (one : RowsAreOne packed_coding) (begins : OpeningsBegin) (on : TipsStayOn) (behind : BehindKeepsTips)
+    module _ (one : RowsAreOne packed_coding) (one_way : StandsOneWay packed_form) (begins : OpeningsBegin) (on : TipsStayOn) (behind : BehindKeepsTips)
         (keep_plain : WritesKeepPlain) (go : WritesGoOn D FireLinks m packed_form)
         (push_on : PushesGoOn packed_form D FireLinks m) (rec : RecId)
         (was_is : before.was ≡ was_in (own o h t.0) table.name (written_at table write))
         (speaks : shows.stands.shows.versions.speaker table.name (written_at table write) ≡ Some rec)
         (settled : (newest : Link) → cells_of (shown core.store.dirty shows.image) rec ≡ Some (cells.Anchor newest)
         → said core.list newest.tx.0 ≡ Committed) where
-      pub committed_stands : PushesOver m core.store after rec v → Stood
-      committed_stands own_batch = both (λ image batch. Pushes core.store image nothing_yet batch rec v) own_batch
+      pub committed_stands : (kept : Kept) → NotesIts kept rec → PushesOver m core.store after rec v → Stood kept
+      committed_stands kept notes own_batch = both (λ image batch. Pushes core.store image nothing_yet batch rec v) own_batch
+          kept rec notes
           (λ j held changed.
           let pushes : Pushes core.store shows.image fresh own_batch.batch rec v =
           own_batch.filled shows.image told_now in
@@ -487,14 +507,14 @@ module _ (speakers : SpeakersAreTold) (befores : BeforesAreTold) (follow : MadeW
                 (sessions_in core.works) shows.stands t.0 table.name key (row_given write) rec v
                 (row_stored table write) there.its lasts_now changed pushes (enters was_is) may codes (entries rec)
                 speaks committed,
-            pushed_leaves one begins on behind keep_plain m go o h (made_by t table write) s s_now core.store after
+            pushed_leaves one one_way begins on behind keep_plain m go o h (made_by t table write) s s_now core.store after
                 shows.image j own_batch.batch asked_now (sessions_in core.works) shows.stands t.0 table.name key
                 (row_given write) rec v (row_stored table write) there.its lasts_now changed (enters was_is) may codes
                 (entries rec) speaks shows.plain_tables pushes committed,
           ))
 
     -- in the record that speaks for the key
-    module _ (one : RowsAreOne packed_coding) (begins : OpeningsBegin) (on : TipsStayOn) (behind : BehindKeepsTips)
+    module _ (one : RowsAreOne packed_coding) (one_way : StandsOneWay packed_form) (begins : OpeningsBegin) (on : TipsStayOn) (behind : BehindKeepsTips)
         (keep_plain : WritesKeepPlain) (ways_free : WaysAreFree) (go : WritesGoOn D FireLinks m packed_form)
         (push_on : PushesGoOn packed_form D FireLinks m) (replace_on : ReplacementsGoOn packed_form D FireLinks m)
         (rec : RecId)
@@ -514,28 +534,30 @@ module _ (speakers : SpeakersAreTold) (befores : BeforesAreTold) (follow : MadeW
             (written_at table write) (row_given write) there.its
         entered = enters (was_told (Some rec) spoken is)
 
-        pub pushed_stands : PushesOver m core.store after rec v → before.way ≡ ways.Push rec
-            → IsObstacle (said core.list) core.live t.0 (shown core.store.dirty shows.image) rec None → Stood
-        pushed_stands own_batch way none = committed_stands one begins on behind keep_plain go push_on rec
+        pub pushed_stands : (kept : Kept) → NotesIts kept rec → PushesOver m core.store after rec v
+            → before.way ≡ ways.Push rec
+            → IsObstacle (said core.list) core.live t.0 (shown core.store.dirty shows.image) rec None → Stood kept
+        pushed_stands kept notes own_batch way none = committed_stands one one_way begins on behind keep_plain go push_on rec
             (was_told (Some rec) spoken is) speaks (λ newest slot. (ways_free core.store.geometry.size o h s pages
-            shows.stands t.0 there.its table rec newest before of slot none is).over way) own_batch
+            shows.stands t.0 there.its table rec newest before of slot none is).over way) kept notes own_batch
 
-        pub replaced_stands : ReplacesNewest m core.store after rec v → Stood
-        replaced_stands own_batch = both (λ image batch. Replaces core.store image nothing_yet batch rec v) own_batch
+        pub replaced_stands : (kept : Kept) → NotesIts kept rec → ReplacesNewest m core.store after rec v → Stood kept
+        replaced_stands kept notes own_batch = both (λ image batch. Replaces core.store image nothing_yet batch rec v) own_batch
+            kept rec notes
             (λ j held changed.
             let replaces : Replaces core.store shows.image fresh own_batch.batch rec v =
             own_batch.filled shows.image told_now in (
               replace_on o h (made_by t table write) s s_now core.store after shows.image j own_batch.batch asked_now
                   (sessions_in core.works) shows.stands t.0 table.name key (row_given write) rec v
                   (row_stored table write) there.its lasts_now changed replaces entered may codes (entries rec) speaks,
-              replaced_leaves one begins on behind keep_plain m go o h (made_by t table write) s s_now core.store after
+              replaced_leaves one one_way begins on behind keep_plain m go o h (made_by t table write) s s_now core.store after
                   shows.image j own_batch.batch asked_now (sessions_in core.works) shows.stands t.0 table.name key
                   (row_given write) rec v (row_stored table write) there.its lasts_now changed entered may codes
                   (entries rec) speaks shows.plain_tables replaces,
             ))
 
     -- at a place that was taken
-    module _ (one : RowsAreOne packed_coding) (begins : OpeningsBegin) (on : TipsStayOn) (behind : BehindKeepsTips)
+    module _ (one : RowsAreOne packed_coding) (one_way : StandsOneWay packed_form) (begins : OpeningsBegin) (on : TipsStayOn) (behind : BehindKeepsTips)
         (keep_plain : WritesKeepPlain) (go : WritesGoOn D FireLinks m packed_form)
         (first_on : FirstsGoOn packed_form D FireLinks m)
         (was_is : before.was ≡ was_in (own o h t.0) table.name (written_at table write)) (at : RecId)
@@ -544,9 +566,9 @@ module _ (speakers : SpeakersAreTold) (befores : BeforesAreTold) (follow : MadeW
         table.name (written_at table write))
         (of : table_at (stands_of shows.stands.shows.layout) at.page.0 ≡ Some there.its)
         (blank : cells_of (shown core.store.dirty shows.image) at ≡ None) where
-      pub made_stands : MakesFirst m core.store after table.pointer.0 at v → Stood
-      made_stands own_batch = both (λ image batch. MakesRecord core.store image nothing_yet batch table.pointer.0 at v)
-          own_batch (λ j held changed.
+      pub made_stands : (kept : Kept) → NotesIts kept at → MakesFirst m core.store after table.pointer.0 at v → Stood kept
+      made_stands kept notes own_batch = both (λ image batch. MakesRecord core.store image nothing_yet batch table.pointer.0 at v)
+          own_batch kept at notes (λ j held changed.
           let makes : MakesRecord core.store shows.image fresh own_batch.batch there.its.pointer.0 at v =
           subst (λ (n : PageNo). MakesRecord core.store shows.image fresh own_batch.batch n.0 at v)
           (sym there.same.pointer) (own_batch.filled shows.image told_now) in (
@@ -554,14 +576,14 @@ module _ (speakers : SpeakersAreTold) (befores : BeforesAreTold) (follow : MadeW
                 (sessions_in core.works) shows.stands t.0 table.name key (row_given write) at v
                 (row_stored table write) there.its lasts_now changed makes (enters was_is) may codes (entries at)
                 silent of blank,
-            first_leaves one begins on behind keep_plain m go o h (made_by t table write) s s_now core.store after
+            first_leaves one one_way begins on behind keep_plain m go o h (made_by t table write) s s_now core.store after
                 shows.image j own_batch.batch asked_now (sessions_in core.works) shows.stands t.0 table.name key
                 (row_given write) at v (row_stored table write) there.its lasts_now changed (enters was_is) may codes
                 (entries at) silent of blank shows.plain_tables makes,
           ))
 
     -- a place is taken, where no version of the key counts
-    module _ (one : RowsAreOne packed_coding) (begins : OpeningsBegin) (on : TipsStayOn) (behind : BehindKeepsTips)
+    module _ (one : RowsAreOne packed_coding) (one_way : StandsOneWay packed_form) (begins : OpeningsBegin) (on : TipsStayOn) (behind : BehindKeepsTips)
         (still : RowsLastStill D FireLinks m packed_form)
         (silent : IsSilentAt packed_form core.store.geometry.size o h
         (standing_of core stands.numbers stands.tables) (shown core.store.dirty shows.image) shows.stands.shows
@@ -573,7 +595,7 @@ module _ (speakers : SpeakersAreTold) (befores : BeforesAreTold) (follow : MadeW
       spot_taken =
           let (j, held, left) = holds after.disk
           (told_after (λ image batch. GivesSpot core.store image nothing_yet batch table.pointer.0 at) takes) in
-          spot_taken_by one begins on behind lists m still o h s core.store after shows.image j takes.batch core.list
+          spot_taken_by one one_way begins on behind lists m still o h s core.store after shows.image j takes.batch core.list
           (asked_in core.works) (sessions_in core.works) shows.stands t.0 there.its at shows.lasts
           (was (λ image batch. GivesSpot core.store image nothing_yet batch table.pointer.0 at) takes j held)
           (subst (λ (n : PageNo). GivesSpot core.store shows.image fresh takes.batch n.0 at) (sym there.same.pointer)
@@ -585,7 +607,7 @@ module _ (speakers : SpeakersAreTold) (befores : BeforesAreTold) (follow : MadeW
       placed_told = told_after (λ image batch. GivesSpot core.store image nothing_yet batch table.pointer.0 at) takes
 
     -- a dead transaction's version is taken out of the record that speaks for the key
-    module _ (one : RowsAreOne packed_coding) (on : TipsStayOn) (behind : BehindKeepsTips)
+    module _ (one : RowsAreOne packed_coding) (one_way : StandsOneWay packed_form) (on : TipsStayOn) (behind : BehindKeepsTips)
         (keep_plain : WritesKeepPlain) (ways_free : WaysAreFree) (speak : SpeakersOfReadings)
         (deads : DeadsGo packed_form D FireLinks m) (rec : RecId)
         (spoken : IsSpeaker (said core.list) core.live (shown core.store.dirty shows.image) table
@@ -617,7 +639,7 @@ module _ (speakers : SpeakersAreTold) (befores : BeforesAreTold) (follow : MadeW
           let out : TakesOut core.store shows.image fresh takes.batch rec = takes.filled shows.image told_now in
           subst (λ (n : List ℕ). HasCleared m o h s core.list core.store after pages (asked_in core.works)
           (sessions_in core.works) rec n key t.0) there.same.name
-          (cleared one on behind lists keep_plain speak m deads o h s core.store after shows.image j takes.batch
+          (cleared one one_way on behind lists keep_plain speak m deads o h s core.store after shows.image j takes.batch
           core.list (asked_in core.works) (sessions_in core.works) shows.stands t.0 there.its rec key shows.lasts
           (was (λ image batch. TakesOut core.store image nothing_yet batch rec) takes j held) out counts
           ((ways_free core.store.geometry.size o h s pages shows.stands t.0 there.its table rec out.newest before

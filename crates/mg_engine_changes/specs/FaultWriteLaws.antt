@@ -13,7 +13,7 @@ use Rattle.mg_version.specs.declared.cell.Version.{Version}
 use Rattle.mg_core.specs.declared.parts.Core.{Core}
 use Rattle.mg_core.specs.Obstacles.{IsOfRecord, IsOfTable, StopsAtRecord, StopsAtTable, WhyOfRecord, WhyOfTable}
 use Rattle.mg_core.specs.Putting.{FailsKept, FailsPut, PutsRow, WhyNotBefore, no_before, no_lay, no_version, not_kept, not_laid, too_long}
-use Rattle.mg_core.specs.Writing.{FailsKey, FailsRow, FailsWrite, HasBegun, HasFound, HasPassed, IsFree, ReadsRow, WhyOfKey, Writes, at_record, at_row, at_table, key_memory, key_null, no_key, not_begun, not_put, only_reads, row_unread, row_wrong}
+use Rattle.mg_core.specs.Writing.{FailsKey, FailsRow, FailsWrite, HasBegun, HasFound, HasPassed, IsFree, ReadsRow, WhyOfKnown, Writes, at_record, at_row, at_table, key_memory, key_null, no_key, not_begun, not_put, only_reads, row_unread, row_wrong}
 use Rattle.mg_row_writes.specs.Changing.{not_lawful}
 use Rattle.mg_space.specs.declared.fault.SpaceFault.TheVariants as space
 use Rattle.mg_engine_changes.specs.FaultCoreLaws.{count, counted, ended, not_read, only_read, passes_stand, refused, stops_told}
@@ -96,7 +96,7 @@ module _ {D : Type 0} (m : Meaning D) where
   row_told : (old new : Core D) (t : TxNo) (table : Table) (key : Value) (write : Write) (refusal : Refusal)
       → FailsRow m old new t table key write refusal → TellsFaults m old new (Some refusal)
   row_told old new t table key write refusal (row_unread fails) quiet =
-      not_read m old new (WhyOfKey m old t table key) refusal fails quiet
+      not_read m old new (WhyOfKnown m old t table key) refusal fails quiet
   row_told old new t table key write refusal (row_wrong found reads wrong) quiet = only_read m old new reads.reads
 
   -- ---- the write

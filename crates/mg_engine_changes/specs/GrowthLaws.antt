@@ -68,6 +68,10 @@ use Rattle.mg_engine_meaning.specs.PlainTables.{HasPlainTables}
 use Rattle.mg_engine_meaning.specs.Standings.{HasTips, ShowsIt, StandsFor, StandsWhile, asked_in, sessions_in, standing_of}
 use Rattle.mg_engine_meaning.specs.StepLaws.{as_standing, shows_of}
 use Rattle.mg_engine_changes.specs.Clearing.{StaysFor}
+use Rattle.mg_directory.specs.Candidates.{by_table}
+use Rattle.mg_engine_changes.specs.DirectoryChanges.{grown_keeps}
+use Rattle.mg_image_overlays.specs.OneLayout.{StandsOneWay}
+use Rattle.mg_noted.specs.Noted.{HasDirectories}
 use Rattle.mg_engine_changes.specs.Laid.{StaysOver, bare_standing}
 use Rattle.mg_engine_changes.specs.PlainLaws.{grown_keeps_plain}
 use Rattle.mg_engine_changes.specs.TipLaws.{growth_keeps_tips}
@@ -82,7 +86,7 @@ none_in page n is = is
 
 -- ---- the pages
 
-module _ (one : RowsAreOne packed_coding) (begins : OpeningsBegin) (on : TipsStayOn) (behind : BehindKeepsTips)
+module _ (one : RowsAreOne packed_coding) (one_way : StandsOneWay packed_form) (begins : OpeningsBegin) (on : TipsStayOn) (behind : BehindKeepsTips)
     (lists_stay : ListsStay) {D : Type 0} (m : Meaning D) (still : RowsLastStill D FireLinks m packed_form)
     (o : Opening) (h : Entries) (s : Standing) (before after : Pool D FireLinks) (i j : Image) (batch : Changed)
     (list : TxList) (asked : Asked) (session : Sessions)
@@ -286,11 +290,13 @@ module _ (one : RowsAreOne packed_coding) (begins : OpeningsBegin) (on : TipsSta
     plain = subst (λ (g : Geometry). HasPlainTables g.size s.state (shown after.dirty j)) (sym geometry)
         (grown_keeps_plain one size o h s.state pool later shows.layout stood.layout shows.reading at shows.sound
         stood.sound stood.grown kept_each plain);
+    noted = grown_keeps one_way size s.state pool later shows.layout stood.layout shows.reading shows.sound stood.sound
+        stood.grown.stays;
   }
 
 -- ---- the engine
 
-module _ (one : RowsAreOne packed_coding) (begins : OpeningsBegin) (on : TipsStayOn) (behind : BehindKeepsTips)
+module _ (one : RowsAreOne packed_coding) (one_way : StandsOneWay packed_form) (begins : OpeningsBegin) (on : TipsStayOn) (behind : BehindKeepsTips)
     (lists_stay : ListsStay) {D : Type 0} (m : Meaning D) (holds : HoldsOne D m)
     (still : RowsLastStill D FireLinks m packed_form) (old : Core D) (store : Pool D FireLinks) (t : TxNo) (o : Opening)
     (h : Entries) (pool : IsPool m old.store) (geometry : IsGeometry old.store.geometry)
@@ -341,7 +347,7 @@ module _ (one : RowsAreOne packed_coding) (begins : OpeningsBegin) (on : TipsSta
   stays =
       let (j, held, left) = holds store.disk told_after in
       let (n, gives) = grows.filled shows_it.image told_now in
-      page_stays one begins on behind lists_stay m still o h s old.store store shows_it.image j grows.batch old.list
+      page_stays one one_way begins on behind lists_stay m still o h s old.store store shows_it.image j grows.batch old.list
       (asked_in old.works) (sessions_in old.works) shows_it.stands t.0 n shows_it.lasts (was j held)
       (subst (λ (owner : ℕ). GivesRoom old.store shows_it.image fresh grows.batch owner old.store.geometry.size n)
       catalog_is gives) active shows_it.plain_tables
@@ -358,13 +364,16 @@ module _ (one : RowsAreOne packed_coding) (begins : OpeningsBegin) (on : TipsSta
     tips = stays.tips;
     catalog = shows_it.catalog ∙ sym stays.keeps.catalog;
     plain_tables = stays.plain;
+    no_directory = shows_it.no_directory;
+    noted = subst (λ (g : Geometry). HasDirectories g.size (said old.list) (shown store.dirty stays.image)
+        old.directories) (sym store_geometry) (stays.noted (by_table old.directories.dirs) shows_it.noted);
   }
 
   pub growth_silent : (key : Value) → IsSilentIn m old o h key → IsSilentIn m (record old { store = store }) o h key
   growth_silent key silent k held =
       let (n, gives) = grows.filled shows_it.image told_now in
       subst (λ (g : Geometry). IsSilentOn g.size o h (said old.list) (shown store.dirty k) key) (sym store_geometry)
-      (silent_stays one begins on behind lists_stay m still o h s old.store store shows_it.image k grows.batch old.list
+      (silent_stays one one_way begins on behind lists_stay m still o h s old.store store shows_it.image k grows.batch old.list
       (asked_in old.works) (sessions_in old.works) shows_it.stands t.0 n shows_it.lasts (was k held)
       (subst (λ (owner : ℕ). GivesRoom old.store shows_it.image fresh grows.batch owner old.store.geometry.size n)
       catalog_is gives) active shows_it.plain_tables
@@ -401,9 +410,9 @@ module _ (one : RowsAreOne packed_coding) (begins : OpeningsBegin) (on : TipsSta
       same_image : (i : Image) → m.held old.store.disk ≡ Some i → i ≡ shows_it.image
       same_image i held = let both : Some i ≡ Some shows_it.image = sym held ∙ shows_it.held in cc
 
-pub growths_stay : RowsAreOne packed_coding → OpeningsBegin → TipsStayOn → BehindKeepsTips → ListsStay → {D : Type 0}
+pub growths_stay : RowsAreOne packed_coding → StandsOneWay packed_form → OpeningsBegin → TipsStayOn → BehindKeepsTips → ListsStay → {D : Type 0}
     (m : Meaning D) → HoldsOne D m → RowsLastStill D FireLinks m packed_form → GrowthsStay D m
-growths_stay one begins on behind lists_stay m holds still old store t o h pool geometry online active grows stands = (
-  growth_stays one begins on behind lists_stay m holds still old store t o h pool geometry online active grows stands,
-  growth_silent one begins on behind lists_stay m holds still old store t o h pool geometry online active grows stands,
+growths_stay one one_way begins on behind lists_stay m holds still old store t o h pool geometry online active grows stands = (
+  growth_stays one one_way begins on behind lists_stay m holds still old store t o h pool geometry online active grows stands,
+  growth_silent one one_way begins on behind lists_stay m holds still old store t o h pool geometry online active grows stands,
 )

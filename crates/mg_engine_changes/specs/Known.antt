@@ -16,12 +16,13 @@ use Rattle.mg_engine_changes.specs.ToTake.{KeysAreTaken, SinceAreTaken}
 use Rattle.mg_engine_steps.specs.Midway.{MidwaysBegin}
 use Rattle.mg_engine_steps.specs.Shown.{ShowsFirst}
 use Rattle.mg_engine_steps.specs.Unasked.{UnaskingLasts}
-use Rattle.mg_image.specs.Form.{packed_form}
+use Rattle.mg_image.specs.Form.{packed_coding, packed_form}
 use Rattle.mg_lasting.specs.Changing.{QuietHolds}
 use Rattle.mg_lasting.specs.PoolLaws.{HoldsOne}
 use Rattle.mg_model.specs.Laws.{OpeningsBegin}
 use Rattle.mg_space.specs.ViewLaws.{CountsNow}
 use Rattle.mg_space.specs.declared.links.FireLinks.{FireLinks}
+use Rattle.mg_image.specs.ReadingLaws.{RowsAreOne}
 use Rattle.mg_image_overlays.specs.OneLayout.{StandsOneWay}
 use Rattle.mg_taking_back.specs.Taking.{ComesToEnd, GivesOn}
 use Rattle.mg_undo.specs.Machine.{GivesWhatWas, NotesDeeds}
@@ -48,6 +49,7 @@ pub record KnownOfBacks (D P : Type 0) (m : Meaning D) : Type 0 where
   pub given_up : StopsAreGivenUp D FireLinks m
   pub failed : WritesFailMidway D FireLinks m
   pub walks : GivenUpWalksGoOn
+  pub rows_one : RowsAreOne packed_coding
   pub one_way : StandsOneWay packed_form
   pub take : OthersTakeAlike
   pub on : StandsOn packed_form

@@ -31,16 +31,20 @@ use Rattle.mg_space.specs.declared.links.FireLinks.{FireLinks}
 use Rattle.mg_version.specs.declared.cell.Version.{Version}
 use Rattle.mg_engine_changes.specs.Refusals.{IsReady}
 use Rattle.mg_engine_steps.specs.Standing.{Standing}
+use Rattle.mg_value.specs.declared.value.Value.{Value}
+use Rattle.mg_engine_changes.specs.Directories.{KeepsNoted}
 use Rattle.mg_engine_changes.specs.Walks.{OthersWalkOn, WalkInto}
 use Rattle.mg_engine_changes.specs.Kept.{made_by}
 use Rattle.mg_engine_changes.specs.Tips.{KeepsTips}
 
--- What a transaction's batch leaves of the pages beside the record: the pages of transactions, plain tables, and the
--- walks of all others.
-pub record LeavesPages (size : ℕ) (s : Standing) (t : ℕ) (pages later : Pages) : Type 0 where
+-- What a transaction's batch leaves of the pages beside the record: the pages of transactions, plain tables, the walks
+-- of all others, and complete directories, where the record is noted under the key.
+pub record LeavesPages (size : ℕ) (s : Standing) (t : ℕ) (pages later : Pages) (first : ℕ) (key : Value) (rec : RecId)
+    : Type 0 where
   pub tips : KeepsTips size pages later
   pub plain : HasPlainTables size s.state later
   pub others : OthersWalkOn size s pages later t
+  pub noted : KeepsNoted size s.state pages later first key rec
 
 -- walks go by states and bases alone
 abbrev pub bare_standing : {D : Type 0} → Core D → Standing

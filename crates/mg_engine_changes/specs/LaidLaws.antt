@@ -33,7 +33,7 @@ use Rattle.mg_pool.specs.declared.pool.Pool.{Pool}
 use Rattle.mg_row_writes.specs.Befores.{IsBefore, IsBeforeBy, IsBeforeOf}
 use Rattle.mg_row_writes.specs.Finding.{IsInWay}
 use Rattle.mg_row_writes.specs.Changing.{TakesNewestOut, TakesPlace}
-use Rattle.mg_row_writes.specs.Laying.{Lays, LaysNew, LaysOverDead}
+use Rattle.mg_row_writes.specs.Laying.{Lays, LaysNew, LaysOverDead, laid_in}
 use Rattle.mg_row_writes.specs.Storing.{row_stored, written_at}
 use Rattle.mg_row_writes.specs.declared.before.Before.{Before}
 use Rattle.mg_row_writes.specs.declared.before.Way.{Way}
@@ -58,12 +58,12 @@ use Rattle.mg_core.specs.declared.parts.Core.{Core}
 use Rattle.mg_core.specs.Cores.{IsCore}
 use Rattle.mg_core.specs.Obstacles.{IsOfRecord, IsPassed}
 use Rattle.mg_core.specs.Putting.{LaysKept, StandsBefore, works_kept}
-use Rattle.mg_core.specs.Writing.{HasBegun, IsFree, IsOfKey, Writes}
+use Rattle.mg_core.specs.Writing.{HasBegun, IsFree, IsOfKey, KnowsKey, Writes}
 use Rattle.mg_engine_meaning.specs.Meaning.{Places}
 use Rattle.mg_engine_meaning.specs.Standings.{ShowsIt, StandsFor, asked_in, sessions_in, standing_of, StandsWhile}
 use Rattle.mg_engine_meaning.specs.ReadLaws.{reads_stand}
 use Rattle.mg_engine_meaning.specs.StepLaws.{shows_of, as_standing}
-use Rattle.mg_engine_steps.specs.Known.{IsShown}
+use Rattle.mg_engine_steps.specs.Known.{IsShown, seen_is_shown}
 use Rattle.mg_model.specs.Machine.{own}
 use Rattle.mg_model.specs.Openings.{everyone}
 use Rattle.mg_overlays.specs.Overlays.{left_state}
@@ -73,6 +73,11 @@ use Rattle.mg_base.specs.declared.geometry.Geometry.{Geometry}
 use Rattle.mg_engine_steps.specs.Walking.{AreToCome, WalkPlace}
 use Rattle.mg_model.specs.Changes.{KeyedRows, same_name}
 use Rattle.mg_engine_steps.specs.Standing.{Standing}
+use Rattle.mg_directory.specs.Candidates.{Kept, NotesOrDrops, by_table}
+use Rattle.mg_noted.specs.Noted.{HasDirectories}
+use Rattle.mg_sortkey.specs.KeyBytes.{key_bytes}
+use Rattle.mg_engine_meaning.specs.DirectoryLaws.{knows_key}
+use Rattle.mg_engine_changes.specs.Directories.{DirectoriesTell}
 use Rattle.mg_engine_changes.specs.Walks.{WalkInto}
 use Rattle.mg_engine_changes.specs.Spots.{HasTaken}
 use Rattle.mg_engine_changes.specs.Befores.{BeforesAreTold}
@@ -151,7 +156,7 @@ module _ (speakers : SpeakersAreTold) (obstacles : ObstaclesAtKeys) (rows : Rows
     (begin : OpeningsBegin) (verdicts : VerdictsAreTheMachines) (nobody : NobodyWaits) (befores : BeforesAreTold)
     (follow : MadeWritesFollow) (may_write : SeenMayBeWritten) (coded : StoredRowsAreCoded) (lists : ListsStay)
     (one : RowsAreOne packed_coding) (on : TipsStayOn) (behind : BehindKeepsTips) (keep_plain : WritesKeepPlain)
-    (ways_free : WaysAreFree) {D P : Type 0} (m : Meaning D) (places : Places P) (counts_now : CountsNow m)
+    (ways_free : WaysAreFree) (dirs : DirectoriesTell) {D P : Type 0} (m : Meaning D) (places : Places P) (counts_now : CountsNow m)
     (holds : HoldsOne D m) (unask : UnaskingLasts packed_form D FireLinks m)
     (last : ReadsLast D FireLinks m packed_form) (go : WritesGoOn D FireLinks m packed_form)
     (push_on : PushesGoOn packed_form D FireLinks m) (replace_on : ReplacementsGoOn packed_form D FireLinks m)
@@ -186,7 +191,7 @@ module _ (speakers : SpeakersAreTold) (obstacles : ObstaclesAtKeys) (rows : Rows
   online = begun.continues.0
 
   answered : answer o h (event_of t table.name write) ≡ Fine
-  answered = free_answer speakers obstacles rows nothing begin verdicts nobody m places counts_now old core t table
+  answered = free_answer speakers obstacles rows nothing begin verdicts nobody dirs m places counts_now old core t table
       write given begun.continues o h stands ready.free ready.wait ready.rec free
 
   -- pages were read
@@ -213,6 +218,10 @@ module _ (speakers : SpeakersAreTold) (obstacles : ObstaclesAtKeys) (rows : Rows
       (shown d mid_shows.image)) (sym since.keeps.dirty) (told_before m old now t.0 had Q told mid_shows.image
       (record { told = stands.tells; held = sym since.keeps.disk.held ∙ mid_shows.held }))
 
+  its_shown : IsShown mid_shows.stands.shows.layout table
+  its_shown = seen_is_shown mid_shows.stands.shows.layout table ((mid_shows.stands.shows.tables t.0
+      begun.continues.1).seen table.name table (mid_stands.given t.0 table.name table given))
+
   abbrev Facts_at : Option RecId → Type 0
   Facts_at r = IsSpeaker (said old.list) old.live (shown read.store.dirty mid_shows.image) table
       (written_at table write) r
@@ -225,8 +234,10 @@ module _ (speakers : SpeakersAreTold) (obstacles : ObstaclesAtKeys) (rows : Rows
     subst (λ (r : Option RecId). IsSpeaker (said old.list) old.live
         (shown read.store.dirty mid_shows.image) table (written_at table write) r)
         (sym free.has_found.finds.is) (told_mid free.has_found.passed passed_since
-        (λ c view. IsOfKey c t table (written_at table write) free.has_found.finds.found view)
-        free.has_found.finds.reads.told).spoken,
+        (λ c view. KnowsKey c table (written_at table write) view
+        → IsOfKey c t table (written_at table write) free.has_found.finds.found view)
+        free.has_found.finds.reads.told (knows_key m (record old { store = read.store }) o h mid_stands.numbers
+        mid_stands.tables mid_shows dirs.walked table its_shown dirs.speakers (written_at table write))).spoken,
     none_passed (said old.list) old.live t.0 (shown read.store.dirty mid_shows.image) ready.rec
         (edges_in free.found.waits) ready.wait free.passes.found (told_mid free.found found_since
         (λ c view. IsOfRecord c t ready.rec view free.passes.found) free.passes.told) free.passes.passed,
@@ -299,6 +310,9 @@ module _ (speakers : SpeakersAreTold) (obstacles : ObstaclesAtKeys) (rows : Rows
       tips = stays.tips;
       catalog = mid_shows.catalog ∙ sym stays.keeps.catalog;
       plain_tables = stays.plain;
+      no_directory = mid_shows.no_directory;
+      noted = subst (λ (g : Geometry). HasDirectories g.size (said old.list) (shown placed.dirty stays.image)
+          old.directories) (sym geometry) (stays.noted (by_table old.directories.dirs) mid_shows.noted);
     }
 
     abbrev place_stands : StandsFor m (record old { store = placed }) o h
@@ -366,13 +380,13 @@ module _ (speakers : SpeakersAreTold) (obstacles : ObstaclesAtKeys) (rows : Rows
     taken = spot_taken speakers befores follow may_write coded lists m places unask
         (record old { store = read.store }) since.keeps.pool o h mid_stands mid_shows t begun.continues.1
         begun.may.work work_is table given write fits storable read.waits since.over before version ready.has.stored
-        answered noted holds mid_geometry placed one begin on behind still silent_there at takes
+        answered noted holds mid_geometry placed one dirs.one_way begin on behind still silent_there at takes
 
     taken_told : m.tells placed.disk ≡ true
     taken_told = placed_told speakers befores follow may_write coded lists m places unask
         (record old { store = read.store }) since.keeps.pool o h mid_stands mid_shows t begun.continues.1
         begun.may.work work_is table given write fits storable read.waits since.over before version ready.has.stored
-        answered noted holds mid_geometry placed one begin on behind still silent_there at takes
+        answered noted holds mid_geometry placed one dirs.one_way begin on behind still silent_there at takes
 
     taken_geometry : placed.geometry ≡ read.store.geometry
     taken_geometry = takes.changed.geometry ∙ takes.keeps.geometry
@@ -388,6 +402,7 @@ module _ (speakers : SpeakersAreTold) (obstacles : ObstaclesAtKeys) (rows : Rows
       stands = taken.spot_of.stands;
       tips = taken.spot_of.tips;
       plain = taken.spot_of.plain;
+      noted = taken.noted;
     }
 
     pub place_stays : StaysOver m old placed o h t.0
@@ -412,14 +427,14 @@ module _ (speakers : SpeakersAreTold) (obstacles : ObstaclesAtKeys) (rows : Rows
     out = dead_cleared speakers befores follow may_write coded lists m places unask
         (record old { store = read.store }) since.keeps.pool o h mid_stands mid_shows t begun.continues.1
         begun.may.work work_is table given write fits storable read.waits since.over before version ready.has.stored
-        answered noted holds mid_geometry placed one on behind keep_plain ways_free speak deads rec at_record.0 at_record.2
+        answered noted holds mid_geometry placed one dirs.one_way on behind keep_plain ways_free speak deads rec at_record.0 at_record.2
         way at_record.1 takes
 
     out_told : m.tells placed.disk ≡ true
     out_told = cleared_told speakers befores follow may_write coded lists m places unask
         (record old { store = read.store }) since.keeps.pool o h mid_stands mid_shows t begun.continues.1
         begun.may.work work_is table given write fits storable read.waits since.over before version ready.has.stored
-        answered noted holds mid_geometry placed one on behind keep_plain ways_free speak deads rec at_record.0 at_record.2
+        answered noted holds mid_geometry placed one dirs.one_way on behind keep_plain ways_free speak deads rec at_record.0 at_record.2
         way at_record.1 takes
 
     out_geometry : placed.geometry ≡ read.store.geometry
@@ -436,6 +451,7 @@ module _ (speakers : SpeakersAreTold) (obstacles : ObstaclesAtKeys) (rows : Rows
       stands = out.settled_of.stands;
       tips = out.settled_of.tips;
       plain = out.settled_of.plain;
+      noted = out.noted;
     }
 
     pub dead_stays : StaysOver m old placed o h t.0
@@ -443,23 +459,45 @@ module _ (speakers : SpeakersAreTold) (obstacles : ObstaclesAtKeys) (rows : Rows
 
   -- ---- the version is laid
 
-  module _ (new : Core D) (laid : LaysKept m read new t.0 table.pointer.0 (written_at table write) before version)
+  module _ (new : Core D) (laid : LaysKept m read (record new { directories = read.directories }) t.0 table.pointer.0
+      (written_at table write) before version) (notes : NotesOrDrops (by_table read.directories.dirs)
+      (by_table new.directories.dirs) table.pointer.0 (key_bytes (written_at table write))
+      (laid_in m read.store new.store table.pointer.0 before.way version laid.lays))
     where
       new_is : new ≡ record old {
         store = new.store;
         waits = read.waits;
         works = works_kept t.0 table.pointer.0 (written_at table write) before.was old.works;
+        directories = new.directories;
       }
-      new_is = laid.same ∙ ap (λ (c : Core D). record c {
-        store = new.store;
-        works = works_kept t.0 table.pointer.0 (written_at table write) before.was c.works;
-      }) since.same
+      new_is = ap (λ (c : Core D). record c { directories = new.directories }) laid.same
+          ∙ ap (λ (c : Core D). record c {
+            store = new.store;
+            works = works_kept t.0 table.pointer.0 (written_at table write) before.was c.works;
+            directories = new.directories;
+          }) since.same
+
+      -- where it was laid, its record was noted
+      abbrev LaidAt : Way → Type 0
+      LaidAt w = (lays : Lays m read.store new.store table.pointer.0 w version)
+          × NotesOrDrops (by_table old.directories.dirs) (by_table new.directories.dirs) table.pointer.0
+          (key_bytes (written_at table write)) (laid_in m read.store new.store table.pointer.0 w version lays)
+
+      laid_at : (w : Way) → before.way ≡ w → LaidAt w
+      laid_at w is = subst LaidAt is (
+        laid.lays,
+        subst (λ (k : Kept). NotesOrDrops (by_table k.dirs) (by_table new.directories.dirs) table.pointer.0
+            (key_bytes (written_at table write))
+            (laid_in m read.store new.store table.pointer.0 before.way version laid.lays))
+            (ap (λ (c : Core D). c.directories) since.same) notes,
+      )
 
       abbrev s_new : Standing
       s_new = bare_standing (record old {
         store = new.store;
         waits = read.waits;
         works = works_kept t.0 table.pointer.0 (written_at table write) before.was old.works;
+        directories = new.directories;
       })
 
       abbrev Stood_now : Type 0
@@ -467,6 +505,7 @@ module _ (speakers : SpeakersAreTold) (obstacles : ObstaclesAtKeys) (rows : Rows
         store = new.store;
         waits = read.waits;
         works = works_kept t.0 table.pointer.0 (written_at table write) before.was old.works;
+        directories = new.directories;
       }) o (made_by t table write ∷ h) × LeavesSince m read.store.disk new.store.disk
           (HoldsAcknowledged packed_form read.store.dirty.size o h)
           × WalkInto m read.store.geometry.size (bare_standing old)
@@ -487,6 +526,7 @@ module _ (speakers : SpeakersAreTold) (obstacles : ObstaclesAtKeys) (rows : Rows
         store = new.store;
         waits = read.waits;
         works = works_kept t.0 table.pointer.0 (written_at table write) before.was old.works;
+        directories = new.directories;
       }) o (made_by t table write ∷ h) × LeavesSince m read.store.disk new.store.disk
           (HoldsAcknowledged packed_form read.store.dirty.size o h)
           × WalkInto m read.store.geometry.size
@@ -518,9 +558,8 @@ module _ (speakers : SpeakersAreTold) (obstacles : ObstaclesAtKeys) (rows : Rows
           (record old { store = read.store }) since.keeps.pool o h mid_stands mid_shows t begun.continues.1
           begun.may.work work_is table given write fits storable read.waits since.over before
           version ready.has.stored answered noted holds mid_geometry new.store one
-          begin on behind keep_plain ways_free go push_on replace_on r its.0 its.2
-          (subst (λ (w : Way). Lays m read.store new.store table.pointer.0 w version) way
-          laid.lays) way its.1)
+          dirs.one_way begin on behind keep_plain ways_free go push_on replace_on r its.0 its.2 new.directories
+          (laid_at (ways.Push r) way).1 (laid_at (ways.Push r) way).0 way its.1)
 
       pub replaced : (r : RecId) → before.way ≡ ways.Replace r
           → GoesOnWith m old new o h (made_by t table write) t.0
@@ -528,9 +567,8 @@ module _ (speakers : SpeakersAreTold) (obstacles : ObstaclesAtKeys) (rows : Rows
           (record old { store = read.store }) since.keeps.pool o h mid_stands mid_shows t begun.continues.1
           begun.may.work work_is table given write fits storable read.waits since.over before
           version ready.has.stored answered noted holds mid_geometry new.store one
-          begin on behind keep_plain ways_free go push_on replace_on r its.0 its.2
-          (subst (λ (w : Way). Lays m read.store new.store table.pointer.0 w version) way
-          laid.lays))
+          dirs.one_way begin on behind keep_plain ways_free go push_on replace_on r its.0 its.2 new.directories
+          (laid_at (ways.Replace r) way).1 (laid_at (ways.Replace r) way).0)
 
       -- over a cache that stands for the same history
       abbrev s_made : Standing
@@ -549,6 +587,7 @@ module _ (speakers : SpeakersAreTold) (obstacles : ObstaclesAtKeys) (rows : Rows
           store = new.store;
           waits = read.waits;
           works = works_kept t.0 table.pointer.0 (written_at table write) before.was old.works;
+          directories = new.directories;
         }) o (made_by t table write ∷ h) × LeavesSince m placed.disk new.store.disk
             (HoldsAcknowledged packed_form placed.dirty.size o h)
             × WalkInto m placed.geometry.size
@@ -580,8 +619,8 @@ module _ (speakers : SpeakersAreTold) (obstacles : ObstaclesAtKeys) (rows : Rows
 
       module _ (still : RowsLastStill D FireLinks m packed_form) (first_on : FirstsGoOn packed_form D FireLinks m)
           (way : before.way ≡ ways.Make) where
-        laid_new : LaysNew m read.store new.store table.pointer.0 version
-        laid_new = subst (λ (w : Way). Lays m read.store new.store table.pointer.0 w version) way laid.lays
+        abbrev laid_new : LaysNew m read.store new.store table.pointer.0 version
+        laid_new = (laid_at ways.Make way).0
 
         abbrev at_place : HasTaken m o h (standing_of (record old { store = read.store }) mid_stands.numbers
             mid_stands.tables) old.list read.store laid_new.placed (shown read.store.dirty mid_shows.image)
@@ -625,16 +664,17 @@ module _ (speakers : SpeakersAreTold) (obstacles : ObstaclesAtKeys) (rows : Rows
             (made_stands speakers befores follow may_write coded lists m places unask
             (record old { store = laid_new.placed }) laid_new.takes.changed.pool o h then_stands then_shows t
             begun.continues.1 begun.may.work work_is table given write fits storable read.waits since.over before version
-            ready.has.stored answered noted holds (subst IsGeometry (sym then_geometry) mid_geometry) new.store one begin on
+            ready.has.stored answered noted holds (subst IsGeometry (sym then_geometry) mid_geometry) new.store one dirs.one_way begin on
             behind keep_plain go first_on (made_was still way laid_new.placed laid_new.at laid_new.takes) laid_new.at
-            at_place.spot_of.silent (at_place.spot_of.placed ∙ ap Some same_its) at_place.spot_of.blank laid_new.makes)
+            at_place.spot_of.silent (at_place.spot_of.placed ∙ ap Some same_its) at_place.spot_of.blank new.directories (laid_at ways.Make way).1
+            laid_new.makes)
 
       -- ---- over a dead transaction's version
 
       module _ (speak : SpeakersOfReadings) (deads : DeadsGo packed_form D FireLinks m) (rec : RecId)
           (way : before.way ≡ ways.PushOverDead rec) where
-        laid_over : LaysOverDead m read.store new.store rec version
-        laid_over = subst (λ (w : Way). Lays m read.store new.store table.pointer.0 w version) way laid.lays
+        abbrev laid_over : LaysOverDead m read.store new.store rec version
+        laid_over = (laid_at (ways.PushOverDead rec) way).0
 
         abbrev over_out : HasCleared m o h (standing_of (record old { store = read.store }) mid_stands.numbers
             mid_stands.tables) old.list read.store laid_over.cleared (shown read.store.dirty mid_shows.image)
@@ -663,6 +703,7 @@ module _ (speakers : SpeakersAreTold) (obstacles : ObstaclesAtKeys) (rows : Rows
             (committed_stands speakers befores follow may_write coded lists m places unask
             (record old { store = laid_over.cleared }) laid_over.takes.changed.pool o h over_stands over_shows t
             begun.continues.1 begun.may.work work_is table given write fits storable read.waits since.over before version
-            ready.has.stored answered noted holds (subst IsGeometry (sym over_geometry) mid_geometry) new.store one begin on
+            ready.has.stored answered noted holds (subst IsGeometry (sym over_geometry) mid_geometry) new.store one dirs.one_way begin on
             behind keep_plain go push_on rec (over_was speak deads rec way laid_over.cleared laid_over.takes)
-            over_out.settled_of.speaks over_out.settled_of.settled laid_over.pushes)
+            over_out.settled_of.speaks over_out.settled_of.settled new.directories
+            (laid_at (ways.PushOverDead rec) way).1 laid_over.pushes)

@@ -58,6 +58,8 @@ use Rattle.mg_engine_steps.specs.WrittenTablePages.{HasLater, KeepsPages}
 use Rattle.mg_engine_steps.specs.WrittenTablePagesLaws.{firsts_keep_pages, moves_keep_pages, pushes_keep_pages, replacements_keep_pages}
 use Rattle.mg_image_overlays.specs.OwnVersion.{FindsNewest}
 use Rattle.mg_image_overlays.specs.DataKept.{KeepsBits}
+use Rattle.mg_image_overlays.specs.OneLayout.{StandsOneWay}
+use Rattle.mg_engine_changes.specs.DirectoryChanges.{written_keeps}
 use Rattle.mg_engine_changes.specs.Laid.{LeavesPages}
 use Rattle.mg_engine_changes.specs.Plain.{WritesKeepPlain}
 use Rattle.mg_engine_changes.specs.TipLaws.{moves_keep_tips, pushes_keep_tips, replacements_keep_tips, firsts_keep_tips}
@@ -67,7 +69,7 @@ use Rattle.mg_engine_changes.specs.WalkLaws.{others_walk_on, over_shown}
 none_here : HasNoSequences packed_form
 none_here page n is = is
 
-module _ (one : RowsAreOne packed_coding) (begins : OpeningsBegin) (on : TipsStayOn) (behind : BehindKeepsTips)
+module _ (one : RowsAreOne packed_coding) (one_way : StandsOneWay packed_form) (begins : OpeningsBegin) (on : TipsStayOn) (behind : BehindKeepsTips)
     (keep_plain : WritesKeepPlain) {D L : Type 0} (m : Meaning D) (go : WritesGoOn D L m packed_form) (o : Opening)
     (h : Entries) (e : Event) (s new : Standing) (before after : Pool D L) (i j : Image) (batch : Changed)
     (asked : Asked) (session : Sessions)
@@ -168,7 +170,7 @@ module _ (one : RowsAreOne packed_coding) (begins : OpeningsBegin) (on : TipsSta
     pushed_reads = (reads D L m packed_form one none_here begins go o h e s new before after i j batch asked session
         stands t name key row rec v stored table lasts was pushes enters may codes laid spoken settled).0
 
-    pub pushed_leaves : LeavesPages size s t pool later
+    pub pushed_leaves : LeavesPages size s t pool later table.pointer.0 key rec
     pushed_leaves = record {
       tips = pushed_tips;
       plain = keep_plain size o h s.state pool later stands.shows.layout stands.shows.reading rec
@@ -183,6 +185,9 @@ module _ (one : RowsAreOne packed_coding) (begins : OpeningsBegin) (on : TipsSta
             grown = pushed_reads.grown;
           })) t enters.active (over_shown (written pushes.pushes.at v (Some pushes.newest) stored)
           (stands.shows.reading rec) t codes.its);
+      noted = written_keeps one_way size s.state pool later stands.shows.layout stands.shows.reading
+          stands.shows.sound rec (written pushes.pushes.at v (Some pushes.newest) stored ∷ stands.shows.reading rec)
+          pushed_reads table key of codes.keyed;
     }
 
   -- ---- it was replaced
@@ -281,7 +286,7 @@ module _ (one : RowsAreOne packed_coding) (begins : OpeningsBegin) (on : TipsSta
         stands.shows.layout stands.shows.reading stands.shows.sound t name key row rec v stored table was.changes
         replaces enters.writes enters.active enters.not_asked number enters.named may codes laid of keyed every
 
-    pub replaced_leaves : LeavesPages size s t pool later
+    pub replaced_leaves : LeavesPages size s t pool later table.pointer.0 key rec
     replaced_leaves = record {
       tips = tips_by replaces.written;
       plain = keep_plain size o h s.state pool later stands.shows.layout stands.shows.reading rec
@@ -298,11 +303,14 @@ module _ (one : RowsAreOne packed_coding) (begins : OpeningsBegin) (on : TipsSta
           over_shown (written its_new.at v replaces.was.back stored) found_it.older t codes.its counts off
           ∙ sym (ap (shown_by_writers counts) found_it.first ∙ over_shown found_it.newest found_it.older t own_newest
           counts off));
+      noted = written_keeps one_way size s.state pool later stands.shows.layout stands.shows.reading
+          stands.shows.sound rec (written its_new.at v replaces.was.back stored ∷ found_it.older) its_new.reads table
+          key of codes.keyed;
     }
 
 -- ---- it is a record's first one
 
-module _ (one : RowsAreOne packed_coding) (begins : OpeningsBegin) (on : TipsStayOn) (behind : BehindKeepsTips)
+module _ (one : RowsAreOne packed_coding) (one_way : StandsOneWay packed_form) (begins : OpeningsBegin) (on : TipsStayOn) (behind : BehindKeepsTips)
     (keep_plain : WritesKeepPlain) {D L : Type 0} (m : Meaning D) (go : WritesGoOn D L m packed_form) (o : Opening)
     (h : Entries) (e : Event) (s new : Standing) (before after : Pool D L) (i j : Image) (batch : Changed)
     (asked : Asked) (session : Sessions)
@@ -379,6 +387,7 @@ module _ (one : RowsAreOne packed_coding) (begins : OpeningsBegin) (on : TipsSta
       made_pages.adds
 
   pub first_leaves : LeavesPages before.geometry.size s t (shown before.dirty i) (shown after.dirty j)
+      table.pointer.0 key rec
   first_leaves = record {
     tips = firsts_keep_tips on behind packed_form one none_here before.geometry.size o h
         (left_state everyone s.state) first_pool (viewed before i makes.makes.adds.given)
@@ -404,4 +413,7 @@ module _ (one : RowsAreOne packed_coding) (begins : OpeningsBegin) (on : TipsSta
           grown = first_reading.0.grown;
         })) t enters.active (λ counts off. over_shown (written makes.makes.at v None stored) [] t codes.its counts off
         ∙ sym (ap (shown_by_writers counts) first_reading.2));
+    noted = written_keeps one_way before.geometry.size s.state first_pool (shown after.dirty j) stands.shows.layout
+        stands.shows.reading stands.shows.sound rec (written makes.makes.at v None stored ∷ []) first_reading.0 table
+        key of codes.keyed;
   }

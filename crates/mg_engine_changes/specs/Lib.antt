@@ -23,13 +23,14 @@ pub mod BeforeLaws
 pub mod Befores
 pub mod CatalogLaws
 pub mod Chains
-pub mod ChoiceTables
 pub mod Clearing
 pub mod ClearingLaws
 pub mod CodeLaws
 pub mod Codes
 pub mod CoreRows
 pub mod CoreRowsLaws
+pub mod Directories
+pub mod DirectoryChanges
 pub mod Dying
 pub mod EngineBacks
 pub mod EngineGivenUp
@@ -161,6 +162,8 @@ pub mod ToTakeLaws
 pub mod Told
 pub mod UndoneLaws
 pub mod UndoneOver
+pub mod Unread
+pub mod UnreadLaws
 pub mod Untouched
 pub mod Verdicts
 pub mod WalkLaws

@@ -145,11 +145,14 @@ module _ {D P : Type 0} (m : Meaning D) (places : Places P) (old new : Core D) (
     store = new.store;
     waits = written.puts.read.waits;
     works = works_kept t.0 table.pointer.0 (written_at table write) written.puts.before.was old.works;
+    directories = new.directories;
   }
-  laid_is = written.puts.laid.same ∙ ap (λ (c : Core D). record c {
-    store = new.store;
-    works = works_kept t.0 table.pointer.0 (written_at table write) written.puts.before.was c.works;
-  }) since.same
+  laid_is = ap (λ (c : Core D). record c { directories = new.directories }) written.puts.laid.same
+      ∙ ap (λ (c : Core D). record c {
+        store = new.store;
+        works = works_kept t.0 table.pointer.0 (written_at table write) written.puts.before.was c.works;
+        directories = new.directories;
+      }) since.same
 
   works_is : new.works ≡ works_kept t.0 table.pointer.0 (written_at table write) written.puts.before.was old.works
   works_is = ap (λ (c : Core D). c.works) laid_is

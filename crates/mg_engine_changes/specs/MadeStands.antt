@@ -55,6 +55,10 @@ use Rattle.mg_waits.specs.Waits.{NowWaits, edges_in}
 use Rattle.mg_works.specs.Works.{Working, given_by, given_to, work_of}
 use Rattle.mg_core.specs.Cores.{IsCatalog}
 use Rattle.mg_core.specs.declared.parts.Core.{Core}
+use Rattle.mg_directory.specs.Candidates.{by_table}
+use Rattle.mg_image_overlays.specs.OneLayout.{StandsOneWay}
+use Rattle.mg_noted.specs.Noted.{HasDirectories}
+use Rattle.mg_engine_changes.specs.DirectoryChanges.{joined_noted}
 use Rattle.mg_engine_changes.specs.Joined.{layout_with, stands_with}
 use Rattle.mg_engine_changes.specs.JoinedKept.{others_newest, own_now}
 use Rattle.mg_engine_changes.specs.Remembering.{NotesRows, RowsAreRemembered, rows_kept}
@@ -144,7 +148,7 @@ changes_else o t name key other (row ∷ rows) h is = sym off ∙ changes_else o
 
 -- ---- the engine
 
-module _ (begins : OpeningsBegin) (seen_law : MadeAreSeen) (remembered : RowsAreRemembered) (lists : ListsStay)
+module _ (one_way : StandsOneWay packed_form) (begins : OpeningsBegin) (seen_law : MadeAreSeen) (remembered : RowsAreRemembered) (lists : ListsStay)
     {D : Type 0} (m : Meaning D) (core : Core D) (cat_ok : IsCatalog core.catalog) (o : Opening) (h : Entries)
     (stands : StandsFor m core o h) (shows : ShowsIt m core o h (standing_of core stands.numbers stands.tables))
     (t : TxNo) (counts : said core.list t.0 ≡ Active) (work : Working) (work_is : work_of core.works t.0 ≡ Some work)
@@ -524,6 +528,12 @@ module _ (begins : OpeningsBegin) (seen_law : MadeAreSeen) (remembered : RowsAre
       at (inl same) = subst (λ (v : ℕ). AreTold core.catalog.pointer.0 (work_of works_now v)) (sym same) its
       at (inr ne) = subst (AreTold core.catalog.pointer.0) (sym (stay.others u ne)) (stands.kept.told u)
 
+  -- the catalog begins where it began, and has no directory
+  catalog_bare : by_table core.directories.dirs made.joined.batch.layout.catalog.table.pointer.0 ≡ None
+  catalog_bare = ap (by_table core.directories.dirs) (ap (λ (x : Table). x.pointer.0) made.sound.catalog
+      ∙ (ap (λ (bytes : List ℕ). (header_in bytes).catalog.0) made.joined.batch.header ∙ sym shows.catalog))
+      ∙ shows.no_directory
+
   -- ---- the whole
 
   pub made_stands : m.tells after.disk ≡ true → m.held after.disk ≡ Some j → after.offline ≡ None
@@ -554,5 +564,12 @@ module _ (begins : OpeningsBegin) (seen_law : MadeAreSeen) (remembered : RowsAre
           ∙ ap (λ (bytes : List ℕ). (header_in bytes).catalog.0) (sym made.joined.batch.header);
       plain_tables = subst (λ (g : Geometry). HasPlainTables g.size (said core.list) (shown after.dirty j))
           (sym geometry) made.plain;
+      no_directory = shows.no_directory;
+      noted = subst (λ (g : Geometry). HasDirectories g.size (said core.list) (shown after.dirty j) core.directories)
+          (sym geometry) (joined_noted one_way core.store.geometry.size (said core.list) t.0
+          (shown core.store.dirty shows.image) (shown after.dirty j) shows.stands.shows.layout
+          made.joined.batch.layout shows.stands.shows.reading made.joined.batch.reading made.joined.made
+          (stand_at name shape page) shows.stands.shows.sound made.sound made.joined.joins
+          (by_table core.directories.dirs) catalog_bare shows.noted);
     });
   }

@@ -75,6 +75,7 @@ use Rattle.mg_engine_changes.specs.Notes.{HasRead}
 use Rattle.mg_engine_changes.specs.Growth.{GrowthsStay}
 use Rattle.mg_engine_changes.specs.MadePages.{MadePages}
 use Rattle.mg_engine_changes.specs.MadeShown.{made_pages}
+use Rattle.mg_image_overlays.specs.OneLayout.{StandsOneWay}
 use Rattle.mg_engine_changes.specs.MadeStands.{made_stands}
 use Rattle.mg_engine_changes.specs.Silent.{IsSilentIn}
 use Rattle.mg_engine_changes.specs.MakingStageLaws.{EachKey, all_come, all_silent, come_self, key_of_row, online, read_come, since}
@@ -87,6 +88,7 @@ use Rattle.mg_engine_changes.specs.WorksMade.{made_asked, made_stay}
 -- the laws that a batch with a table stands on
 pub record KnownOfTables (D : Type 0) (m : Meaning D) : Type 0 where
   pub one : RowsAreOne packed_coding
+  pub one_way : StandsOneWay packed_form
   pub begins : OpeningsBegin
   pub behind : BehindKeepsTips
   pub apart : OwnersKeepStandsApart packed_form
@@ -204,7 +206,7 @@ module _ {D : Type 0} (m : Meaning D) (known : KnownOfTables D m) (core : Core D
           new_shape columns fits fills row_silent
 
       stands_now : StandsFor m made_core o (with_rows t (rows_made name shape) h)
-      stands_now = made_stands known.begins known.seen known.remembered known.lists m core cat_ok o h stands shows t counts
+      stands_now = made_stands known.one_way known.begins known.seen known.remembered known.lists m core cat_ok o h stands shows t counts
           work work_is may_make name shape other new_shape fills.page after j waits over made (told_after stands.tells)
           held makes.changed.online.1 after_geometry
 

@@ -29,7 +29,7 @@ use Rattle.mg_model.specs.Openings.{everyone}
 use Rattle.mg_overlays.specs.Overlays.{left_state}
 use Rattle.mg_image_overlays.specs.OneTable.{one_standing, stands_in}
 use Rattle.mg_engine_meaning.specs.PlainTables.{HasPlainTables}
-use Rattle.mg_engine_changes.specs.ChoiceTables.{tables_are}
+use Rattle.mg_noted.specs.ChoiceTables.{tables_are}
 use Rattle.mg_engine_changes.specs.Plain.{WritesKeepPlain}
 
 -- the rows of a table are the same where its records are; on pages that it has got no record is read

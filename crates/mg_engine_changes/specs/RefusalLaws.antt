@@ -43,11 +43,13 @@ use Rattle.mg_works.specs.Works.{Working, given_to, work_of}
 use Rattle.mg_core.specs.declared.parts.Core.{Core}
 use Rattle.mg_core.specs.Cores.{Continues, IsCore}
 use Rattle.mg_core.specs.Obstacles.{Hinders, IsOfRecord, IsOfTable}
-use Rattle.mg_core.specs.Writing.{Allows, HasBegun, HasFound, HasPassed, IsFree, IsOfKey, IsWrong, MayWrite}
+use Rattle.mg_core.specs.Writing.{Allows, HasBegun, HasFound, HasPassed, IsFree, IsOfKey, IsWrong, MayWrite, KnowsKey}
 use Rattle.mg_engine_meaning.specs.LawfulLaws.{memory_of, tables_are_seen}
 use Rattle.mg_engine_meaning.specs.Meaning.{Places}
 use Rattle.mg_engine_meaning.specs.Standings.{ShowsIt, StandsFor, mode_kept, standing_of}
 use Rattle.mg_engine_meaning.specs.StepLaws.{shows_of}
+use Rattle.mg_engine_meaning.specs.DirectoryLaws.{knows_key}
+use Rattle.mg_engine_changes.specs.Directories.{DirectoriesTell}
 use Rattle.mg_engine_changes.specs.Answered.{answered, row_answer, table_answer}
 use Rattle.mg_engine_changes.specs.Looked.{hindered_answer, passed_next, row_told}
 use Rattle.mg_engine_changes.specs.Notes.{HasRead}
@@ -135,7 +137,7 @@ module _ {D : Type 0} (m : Meaning D) (counts_now : CountsNow m) (old : Core D) 
 -- ---- one history
 
 module _ (speakers : SpeakersAreTold) (obstacles : ObstaclesAtKeys) (rows : RowsAtKeys) (nothing : NothingAtKeys)
-    (begin : OpeningsBegin) (verdicts : VerdictsAreTheMachines) (nobody : NobodyWaits) {D P : Type 0} (m : Meaning D)
+    (begin : OpeningsBegin) (verdicts : VerdictsAreTheMachines) (nobody : NobodyWaits) (dirs : DirectoriesTell) {D P : Type 0} (m : Meaning D)
     (places : Places P) (counts_now : CountsNow m) (old : Core D) (core : IsCore m old) (t : TxNo) (table : Table)
     (write : Write) (given : given_to old.works t.0 table.name ≡ Some table) (continues : Continues old t.0)
     (o : Opening) (h : Entries) (stands : StandsFor m old o h) where
@@ -243,14 +245,18 @@ module _ (speakers : SpeakersAreTold) (obstacles : ObstaclesAtKeys) (rows : Rows
 
   row_of_key : (passed : Core D) → HasRead m old passed t.0 → (found : RowAt)
       → ((image : Image) → Tells m passed.store.disk image
+      → KnowsKey passed table (written_at table write) (shown passed.store.dirty image)
       → IsOfKey passed t table (written_at table write) found (shown passed.store.dirty image))
       → IsRowAt (said old.list) old.live t (shown old.store.dirty shows.image) table (written_at table write) found
   row_of_key passed read found is = told_before m old passed t.0 read
-      (λ (c : Core D) (view : Pages). IsOfKey c t table (written_at table write) found view) is shows.image
-      told_tells
+      (λ (c : Core D) (view : Pages). KnowsKey c table (written_at table write) view
+      → IsOfKey c t table (written_at table write) found view) is shows.image told_tells
+      (knows_key m old o h stands.numbers stands.tables shows dirs.walked table table_there dirs.speakers
+      (written_at table write))
 
   has_row_is : (passed : Core D) → HasRead m old passed t.0 → (found : RowAt)
       → ((image : Image) → Tells m passed.store.disk image
+      → KnowsKey passed table (written_at table write) (shown passed.store.dirty image)
       → IsOfKey passed t table (written_at table write) found (shown passed.store.dirty image))
       → has_row (told o h) t.0 table.name (written_at table write) ≡ is_some found.row
   has_row_is passed read found is = row_told speakers obstacles rows nothing begin m old o h stands shows t is_active
@@ -267,6 +273,7 @@ module _ (speakers : SpeakersAreTold) (obstacles : ObstaclesAtKeys) (rows : Rows
   pub row_is_wrong : (passed : Core D) (wait : Bool) → HasPassed m old passed t table wait → (found : RowAt)
       (refusal : Refusal)
       → ((image : Image) → Tells m passed.store.disk image
+      → KnowsKey passed table (written_at table write) (shown passed.store.dirty image)
       → IsOfKey passed t table (written_at table write) found (shown passed.store.dirty image))
       → IsWrong write (is_some found.row) refusal
       → IsLawful o h (entry (event_of t table.name write) (No refusal))

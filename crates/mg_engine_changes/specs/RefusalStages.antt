@@ -46,6 +46,7 @@ use Rattle.mg_core.specs.Writing.{FailsRow, FailsWrite, HasBegun, HasFound, HasP
 use Rattle.mg_engine_meaning.specs.EventLaws.{refused_gives}
 use Rattle.mg_engine_meaning.specs.Meaning.{Places}
 use Rattle.mg_engine_meaning.specs.Standings.{StandsFor}
+use Rattle.mg_engine_changes.specs.Directories.{DirectoriesTell}
 use Rattle.mg_engine_changes.specs.NoteLaws.{notes_give}
 use Rattle.mg_engine_changes.specs.Notes.{AreCounts, HasRead}
 use Rattle.mg_engine_changes.specs.RefusalLaws.{active_event, begun_read, found_read, free_read, none_wrong, only_read, passed_read, passing_event, plain_wrong, record_hindered, row_is_wrong, table_hindered, whose_event}
@@ -55,7 +56,7 @@ use Rattle.mg_engine_changes.specs.Stops.{IsPlain, IsStopped}
 use Rattle.mg_engine_changes.specs.Verdicts.{told_notes, told_plain}
 
 module _ (speakers : SpeakersAreTold) (obstacles : ObstaclesAtKeys) (rows : RowsAtKeys) (nothing : NothingAtKeys)
-    (begin : OpeningsBegin) (verdicts : VerdictsAreTheMachines) (nobody : NobodyWaits) {D P : Type 0} (m : Meaning D)
+    (begin : OpeningsBegin) (verdicts : VerdictsAreTheMachines) (nobody : NobodyWaits) (dirs : DirectoriesTell) {D P : Type 0} (m : Meaning D)
     (places : Places P) (counts_now : CountsNow m) (idle_goes : IdleGoesOn D FireLinks m packed_form)
     (on : StandsOn packed_form) (quiet : QuietHolds packed_form) (last : ReadsLast D FireLinks m packed_form)
     (old new : Core D) (core : IsCore m old) (fits : AreCounts old) (t : TxNo) (table : Table) (write : Write)
@@ -134,7 +135,7 @@ module _ (speakers : SpeakersAreTold) (obstacles : ObstaclesAtKeys) (rows : Rows
           → Still
       at None is by_ = absurd by_
       at (Some x) is by_ = stopped (hinders_stop has.continues.0 read since wait x by_)
-          (λ o h stands. table_hindered speakers obstacles rows nothing begin verdicts nobody m places counts_now old
+          (λ o h stands. table_hindered speakers obstacles rows nothing begin verdicts nobody dirs m places counts_now old
           core t table write given has.continues o h stands begun wait has read x new refusal since is by_)
 
   -- ---- by the row in the view
@@ -149,7 +150,7 @@ module _ (speakers : SpeakersAreTold) (obstacles : ObstaclesAtKeys) (rows : Rows
       (reads_on m counts_now old passed new t.0 (passed_read m counts_now old core t table write passed wait has)
       reads.reads) refusal refl (plain_wrong write (is_some found.row) refusal wrong)
       (none_wrong write (is_some found.row) refusal wrong))
-      (λ o h stands. row_is_wrong speakers obstacles rows nothing begin verdicts nobody m places counts_now old core t
+      (λ o h stands. row_is_wrong speakers obstacles rows nothing begin verdicts nobody dirs m places counts_now old core t
       table write given has.has_begun.continues o h stands passed wait has found refusal reads.told wrong)
 
   -- ---- by the record
@@ -171,7 +172,7 @@ module _ (speakers : SpeakersAreTold) (obstacles : ObstaclesAtKeys) (rows : Rows
           → Still
       at None is by_ = absurd by_
       at (Some x_) is by_ = stopped (hinders_stop has.has_passed.has_begun.continues.0 read since wait x_ by_)
-          (λ o h stands. record_hindered speakers obstacles rows nothing begin verdicts nobody m places counts_now old
+          (λ o h stands. record_hindered speakers obstacles rows nothing begin verdicts nobody dirs m places counts_now old
           core t table write given has.has_passed.has_begun.continues o h stands found wait rec has read x_ new
           refusal since is by_)
 
@@ -226,7 +227,7 @@ module _ (speakers : SpeakersAreTold) (obstacles : ObstaclesAtKeys) (rows : Rows
       (told_stops m places counts_now old new new t.0 continues.0 fits (ended_read m old new t.0 core.pool ends)
       refusal refl (subst (λ (r : Refusal). IsPlain r) (sym only.is) tt)
       (ap (λ (r : Refusal). waited_on (No r)) only.is))
-      (λ o h stands. only_read speakers obstacles rows nothing begin verdicts nobody m places counts_now old core t
+      (λ o h stands. only_read speakers obstacles rows nothing begin verdicts nobody dirs m places counts_now old core t
       table write given continues o h stands new (ended_read m old new t.0 core.pool ends) refusal only.work only.its
       only.reads only.is))
   refusals (at_table begun wait has stops) = inl (at_its_table begun wait has stops)

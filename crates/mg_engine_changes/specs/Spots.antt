@@ -55,6 +55,9 @@ use Rattle.mg_txlist.specs.declared.list.TxList.{TxList}
 use Rattle.mg_engine_meaning.specs.PlainTables.{HasPlainTables}
 use Rattle.mg_engine_meaning.specs.Standings.{HasTips}
 use Rattle.mg_engine_steps.specs.WrittenTablePagesLaws.{then_keeps, to as grown_layout}
+use Rattle.mg_image_overlays.specs.OneLayout.{StandsOneWay}
+use Rattle.mg_engine_changes.specs.Directories.{StaysNoted}
+use Rattle.mg_engine_changes.specs.DirectoryChanges.{grown_keeps}
 use Rattle.mg_engine_changes.specs.PlainLaws.{grown_keeps_plain}
 use Rattle.mg_engine_changes.specs.TipLaws.{growth_keeps_tips}
 use Rattle.mg_engine_changes.specs.Tips.{KeepsTips}
@@ -84,6 +87,7 @@ pub record HasTaken {D : Type 0} (m : Meaning D) (o : Opening) (h : Entries) (s 
   pub lasts : LastsOn m packed_form o h after asked session
   pub leaves : LeavesSince m before.disk after.disk (HoldsAcknowledged packed_form before.dirty.size o h)
   pub others : OthersWalkOn before.geometry.size s was (shown after.dirty image) t
+  pub noted : StaysNoted before.geometry.size s.state was (shown after.dirty image)
   pub spot_of : HasSpotOf after.geometry.size o h s list (shown after.dirty image) table at name key
 
 -- ---- it was taken
@@ -91,7 +95,7 @@ pub record HasTaken {D : Type 0} (m : Meaning D) (o : Opening) (h : Entries) (s 
 none_in : HasNoSequences packed_form
 none_in page n is = is
 
-module _ (one : RowsAreOne packed_coding) (begins : OpeningsBegin) (on : TipsStayOn) (behind : BehindKeepsTips)
+module _ (one : RowsAreOne packed_coding) (one_way : StandsOneWay packed_form) (begins : OpeningsBegin) (on : TipsStayOn) (behind : BehindKeepsTips)
     (lists_stay : ListsStay) {D : Type 0} (m : Meaning D) (still : RowsLastStill D FireLinks m packed_form)
     (o : Opening) (h : Entries) (s : Standing) (before after : Pool D FireLinks) (i j : Image) (batch : Changed)
     (list : TxList) (asked : Asked) (session : Sessions)
@@ -260,6 +264,8 @@ module _ (one : RowsAreOne packed_coding) (begins : OpeningsBegin) (on : TipsSta
     lasts = place.stays.lasts;
     leaves = place.stays.leaves;
     others = spot_others;
+    noted = grown_keeps one_way size s.state pool later shows.layout stood.layout shows.reading shows.sound stood.sound
+        stood.grown.stays;
     spot_of = subst (λ (g_ : Geometry). HasSpotOf g_.size o h s list (shown after.dirty j) table at name key)
         (sym geometry) spot_now;
   }

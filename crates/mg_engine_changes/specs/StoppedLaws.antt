@@ -1,6 +1,6 @@
 -- A change was not taken back, and so the transaction is rolled back: its engine stands for the history with the refused
 -- event and the rollback.
-use Rattle.std.proofs.Common.{◌≡◌, ◌≢◌, ◌⊎◌, ◌∙◌, ◌∷◌, ◌==◌, ◌≤◌, [], ℕ, Bool, Err, List, None, Option, Some, ap, false, inl, inr, not, refl, subst, sym, true}
+use Rattle.std.proofs.Common.{◌≡◌, ◌≢◌, ◌⊎◌, ◌∙◌, ◌∷◌, ◌==◌, ◌&&◌, ◌≤◌, [], ℕ, Bool, Err, List, None, Option, Some, ap, false, inl, inr, not, refl, subst, sym, true}
 use Rattle.std.proofs.Math.Path.{fun_ext}
 use Rattle.std.proofs.lemmas.Bool.{cases_eq, eq-eqb, ne_eqb}
 use Rattle.std.specs.Prelude.{if◌then◌else◌}
@@ -10,6 +10,11 @@ use Rattle.mg_base.specs.declared.numbers.TxNo.{TxNo}
 use Rattle.mg_base.specs.declared.transaction.TxState.{TxState}
 use Rattle.mg_base.specs.declared.transaction.TxState.TheVariants.{Active, Dead}
 use Rattle.mg_chain.specs.Chains.{takes_version}
+use Rattle.mg_directory.specs.Candidates.{by_table}
+use Rattle.mg_noted.specs.Noted.{HasDirectories}
+use Rattle.mg_engine_meaning.specs.RollbackEnds.{noted_by_dead}
+use Rattle.mg_engine_steps.specs.Outs.{GoOrStay}
+use Rattle.mg_engine_changes.specs.DirectoryChanges.{lost_noted}
 use Rattle.mg_engine_changes.specs.EngineGivenUp.{states_now}
 use Rattle.mg_engine_changes.specs.RowsLostLaws.{walks_past}
 use Rattle.mg_engine_steps.specs.GoesOnLaws.{pool_is_kept}
@@ -103,6 +108,10 @@ without_with t made number (w ∷ works) = at (w.number == t) refl (without_with
         ≡ (if not b then w ∷ without_work t works else without_work t works)
     at true is more = rw (ap (λ (n : ℕ). n == t) (number w) ∙ is) more
     at false is more = rw is (ap (λ (ws : List Working). w ∷ ws) more)
+
+and_true : (b : Bool) → b ≡ (b && true)
+and_true true = refl
+and_true false = refl
 
 -- ---- the engine
 
@@ -317,6 +326,39 @@ module _ {D P : Type 0} (m : Meaning D) (places : Places P) (known : KnownOfBack
             (subst (λ (x : Pages). IsSoundBy packed_form size (left_state chosen (said new.list)) x layout q) same_shown
             sound)) its of
 
+    -- directories are complete after the keys, also with the transaction dead
+    noted_mid : HasDirectories size (said new.list) (shown some.mid.store.dirty some.taken.image) old.directories
+    noted_mid = noted_by_dead known.rows_one known.one_way size (said old.list) (said new.list)
+        (shown some.mid.store.dirty some.taken.image) t.0 has_begun.continues.1 ends_now.here ends_now.others
+        (lists_mid.plain shows.plain_tables) some.taken.midway.pages.layout some.taken.midway.pages.reading
+        some.taken.midway.pages.sound old.directories
+        (lists_mid.noted (by_table old.directories.dirs) shows.noted)
+
+    dead_beside : left_state (all_but t.0) (said old.list) ≡ left_state everyone (said new.list)
+    dead_beside = ap (λ (c : ℕ → Bool). left_state c (said old.list)) (fun_ext (λ u. and_true (not (u == t.0))))
+        ∙ fun_ext (left_same t.0 (said old.list) (said new.list) ends_now.here ends_now.others
+        has_begun.continues.1 everyone)
+
+    mid_kept : IsKept packed_form size o (again t.0 some.taken.rest (e ∷ h)) (left_state (all_but t.0) (said old.list))
+        (shown some.mid.store.dirty some.taken.image) (shown some.mid.store.dirty some.taken.image)
+    mid_kept = pool_is_kept packed_form D FireLinks size o (again t.0 some.taken.rest (e ∷ h)) (said old.list)
+        (asked_in (with_work t.0 unasked old.works)) (sessions_in old.works) some.mid.store some.taken.image
+        (all_but t.0) some.taken.midway.cache.kept
+
+    -- and so after the rows
+    noted_now : HasDirectories size (said new.list) (shown stopped.store.dirty image) old.directories
+    noted_now b q sound =
+        let lost : (mid_kept.layout ≡ b) × GoOrStay t.0 mid_kept.reading q = some.lost.loses mid_kept.layout b
+        mid_kept.reading q mid_kept.sound
+        (subst (λ (x : ℕ → TxState). IsSoundBy packed_form size x (shown stops.at.store.dirty image) b q) (sym dead_beside)
+        (subst (λ (x : Pages). IsSoundBy packed_form size (left_state everyone (said new.list)) x b q) same_shown
+        sound)) in
+        lost_noted (left_state everyone (said new.list)) (left_state everyone (said new.list))
+        (shown some.mid.store.dirty some.taken.image) (shown stopped.store.dirty image) mid_kept.layout b
+        mid_kept.reading q t.0 (by_table old.directories.dirs) lost.0 lost.1 (noted_mid mid_kept.layout
+        mid_kept.reading (subst (λ (x : ℕ → TxState). IsSoundBy packed_form size x
+        (shown some.mid.store.dirty some.taken.image) mid_kept.layout mid_kept.reading) dead_beside mid_kept.sound))
+
     tips_mid : HasTips old.list size (shown some.mid.store.dirty some.taken.image)
     tips_mid = known.lists old.list old.list size (shown old.store.dirty shows.image)
         (shown some.mid.store.dirty some.taken.image) refl refl lists_mid.tips.next lists_mid.tips.tips shows.tips
@@ -335,6 +377,9 @@ module _ {D P : Type 0} (m : Meaning D) (places : Places P) (known : KnownOfBack
       catalog = some.taken.catalog ∙ sym kept_tips.catalog;
       plain_tables = subst (λ (n : ℕ). HasPlainTables n (said new.list) (shown stopped.store.dirty image))
           (sym its_end.size) plain_now;
+      no_directory = shows.no_directory;
+      noted = subst (λ (n : ℕ). HasDirectories n (said new.list) (shown stopped.store.dirty image) old.directories)
+          (sym its_end.size) noted_now;
     }
 
     abbrev stands_now : StandsFor m now o (rolling t.0 ∷ entry (back_event t point) (No refusal) ∷ h)

@@ -107,7 +107,7 @@ stands_still a b table was fronts =
       pages = behind.is_;
     }
 
-rec_cases : (p q : RecId) → (p ≡ q) ⊎ (p ≢ q)
+pub rec_cases : (p q : RecId) → (p ≡ q) ⊎ (p ≢ q)
 rec_cases p q = at (cases_eq p.page.0 q.page.0) (cases_eq p.slot q.slot)
   where
     at : (p.page.0 ≡ q.page.0) ⊎ (p.page.0 ≢ q.page.0) → (p.slot ≡ q.slot) ⊎ (p.slot ≢ q.slot)

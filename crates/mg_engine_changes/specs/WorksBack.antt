@@ -180,6 +180,8 @@ module _ (retract : RetractTakesKeepBack) {D : Type 0} (m : Meaning D)
     tips = shows.tips;
     catalog = shows.catalog;
     plain_tables = shows.plain_tables;
+    no_directory = shows.no_directory;
+    noted = shows.noted;
   }
   stands_with s (Some faults) keeps = record { stands = keeps.stands; left = keeps.left }
 

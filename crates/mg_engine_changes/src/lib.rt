@@ -60,7 +60,7 @@ pub use row_writes::{
     befores_are_told, first_batches_stay, made_rows_give, made_writes_follow, new_rows_go_on,
     not_laid_give, noted_tables_are_quiet, noted_writes_give, noted_writes_keep_apart,
     over_dead_rows_go_on, refusals_go_on, row_walks_go_on, rows_go_on, seen_may_be_written,
-    stored_rows_are_coded, ways_are_free, writes_keep_plain, writes_keep_tips,
+    stored_rows_are_coded, unread_writes_give, ways_are_free, writes_keep_plain, writes_keep_tips,
 };
 pub use takings::{
     backs_are_known, backs_follow, backs_give, cores_take_all, cores_take_keys, engines_give_up,

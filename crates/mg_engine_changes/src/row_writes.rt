@@ -34,5 +34,5 @@ pub use walks::row_walks_go_on;
 pub use writes::{
     befores_are_told, first_batches_stay, made_rows_give, made_writes_follow, new_rows_go_on,
     over_dead_rows_go_on, refusals_go_on, rows_go_on, seen_may_be_written, stored_rows_are_coded,
-    ways_are_free, writes_keep_plain, writes_keep_tips,
+    unread_writes_give, ways_are_free, writes_keep_plain, writes_keep_tips,
 };

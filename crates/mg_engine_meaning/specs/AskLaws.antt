@@ -21,6 +21,7 @@ use Rattle.mg_image.specs.Form.{Pages, packed_form}
 use Rattle.mg_image.specs.Inventory.{header_of}
 use Rattle.mg_lasting.specs.Crashes.{HoldsAcknowledged}
 use Rattle.mg_lasting.specs.Lasting.{LastsOn}
+use Rattle.mg_noted.specs.Noted.{HasDirectories}
 use Rattle.mg_pool.specs.Dirty.{DirtyPages, MarksAll, content_of, is_dirty, is_marked}
 use Rattle.mg_pool.specs.Pool.{shown}
 use Rattle.mg_pool.specs.declared.pool.Pool.{Pool}
@@ -139,6 +140,9 @@ module _ {D P : Type 0} (m : Meaning D) (places : Places P)
         catalog = shows.catalog ∙ ap (λ (pages : Pages). (header_of pages).catalog.0) (pages_same shows.image);
         plain_tables = subst (λ (pages : Pages). HasPlainTables old.store.geometry.size (said old.list) pages)
             (pages_same shows.image) shows.plain_tables;
+        no_directory = shows.no_directory;
+        noted = subst (λ (pages : Pages). HasDirectories old.store.geometry.size (said old.list) pages old.directories)
+            (pages_same shows.image) shows.noted;
       }
 
   given_same : (u : ℕ) (name : List ℕ)

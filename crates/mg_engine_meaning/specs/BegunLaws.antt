@@ -44,6 +44,9 @@ use Rattle.mg_lasting.specs.Crashes.{HoldsAcknowledged, LeavesSince}
 use Rattle.mg_lasting.specs.Lasting.{LastsOn}
 use Rattle.mg_lasting.specs.PoolLaws.{HoldsOne}
 use Rattle.mg_image_overlays.specs.OneLayout.{StandsOneWay}
+use Rattle.mg_noted.specs.ComingLaws.{stayed_has}
+use Rattle.mg_noted.specs.Noted.{HasDirectories}
+use Rattle.mg_directory.specs.Candidates.{by_table}
 use Rattle.mg_overlays.specs.BatchLaws.{good_of_pool}
 use Rattle.mg_overlays.specs.Overlays.{left_by, left_state}
 use Rattle.mg_pool.specs.Pool.{cache_of, shown}
@@ -409,6 +412,14 @@ module _ {D P : Type 0} (m : Meaning D) (places : Places P) (known : KnownOfDraw
           there;
     })
 
+    -- ---- directories are complete still
+
+    noted_now : HasDirectories size (said list) later old.directories
+    noted_now = stayed_has packed_form known.one_way size (left_state everyone (said old.list))
+        (left_state everyone (said list)) pages later (by_table old.directories.dirs) shows.stands.shows.layout
+        shows.stands.shows.reading shows.stands.shows.sound
+        (sound_then everyone shows.stands.shows.layout shows.stands.shows.reading shows.stands.shows.sound) shows.noted
+
     -- ---- the engine
 
     shows_now : ShowsIt m now o (e ∷ h) new
@@ -427,6 +438,9 @@ module _ {D P : Type 0} (m : Meaning D) (places : Places P) (known : KnownOfDraw
           (left_state everyone (said old.list)) shows.stands.shows.layout shows.stands.shows.reading
           shows.stands.shows.sound);
       plain_tables = subst (λ (g : Geometry). HasPlainTables g.size (said list) later) (sym goes.geometry) plain_now;
+      no_directory = shows.no_directory;
+      noted = subst (λ (g : Geometry). HasDirectories g.size (said list) later old.directories) (sym goes.geometry)
+          noted_now;
     }
 
     stands_by : StandsFor m now o (e ∷ h)

@@ -17,6 +17,7 @@ use Rattle.mg_model.specs.Legal.{IsLawful}
 use Rattle.mg_engine_steps.specs.Idle.{IdleGoesOn}
 use Rattle.mg_image.specs.Form.{Pages, packed_form}
 use Rattle.mg_lasting.specs.Changing.{QuietHolds}
+use Rattle.mg_noted.specs.Noted.{HasDirectories}
 use Rattle.mg_pool.specs.Pool.{shown}
 use Rattle.mg_records.specs.Crashing.{LeavesQuietly}
 use Rattle.mg_records.specs.Keeping.{Reads}
@@ -163,6 +164,9 @@ module _ {D P : Type 0} (m : Meaning D) (places : Places P) (core : Core D) (lis
         catalog = shows.catalog;
         plain_tables = subst (λ (state : ℕ → TxState). HasPlainTables core.store.geometry.size state
             (shown core.store.dirty shows.image)) state_same shows.plain_tables;
+        no_directory = shows.no_directory;
+        noted = subst (λ (state : ℕ → TxState). HasDirectories core.store.geometry.size state
+            (shown core.store.dirty shows.image) core.directories) state_same shows.noted;
       }
       by (Some faults) keeps = record {
         stands = subst (λ (s : Standing). Stands packed_form core.store.geometry.size o h s None)

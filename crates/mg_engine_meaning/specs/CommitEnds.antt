@@ -40,6 +40,9 @@ use Rattle.mg_model.specs.Machine.{is_of, next_number, state_of}
 use Rattle.mg_model.specs.NumberLaws.{undrawn_is_dead}
 use Rattle.mg_model.specs.Openings.{everyone}
 use Rattle.mg_image_overlays.specs.OneLayout.{StandsOneWay}
+use Rattle.mg_noted.specs.ComingLaws.{stayed_has}
+use Rattle.mg_noted.specs.Noted.{HasDirectories}
+use Rattle.mg_directory.specs.Candidates.{by_table}
 use Rattle.mg_overlays.specs.Overlays.{left_by as counts_by, left_state}
 use Rattle.mg_pool.specs.Batch.{content_in, one_page, orders_of}
 use Rattle.mg_pool.specs.Pool.{cache_of, shown}
@@ -383,6 +386,15 @@ module _ {D P : Type 0} (m : Meaning D) (places : Places P) (holds : HoldsOne D 
               (later_sound chosen)).0 there;
         })
 
+    -- ---- directories are complete still
+
+    noted_now : HasDirectories old.store.geometry.size (said list) (shown store.dirty j) old.directories
+    noted_now = stayed_has packed_form one_way old.store.geometry.size (left_state everyone (said old.list))
+        (left_state everyone (said list)) (shown old.store.dirty shows.image) (shown store.dirty j)
+        (by_table old.directories.dirs) shows.stands.shows.layout shows.stands.shows.reading
+        shows.stands.shows.sound
+        (sound_on shows.stands.shows.layout shows.stands.shows.reading shows.stands.shows.sound) shows.noted
+
     -- ---- what the engine shows
 
     pub shows_now : ShowsIt m (left_by old waits list store t.0) o (entry (Commit t) Fine ∷ h)
@@ -399,6 +411,9 @@ module _ {D P : Type 0} (m : Meaning D) (places : Places P) (holds : HoldsOne D 
       catalog = shows.catalog ∙ sym (ap (λ (page : List ℕ). (header_of (λ (n : ℕ). page)).catalog.0) header_stays);
       plain_tables = subst (λ (g : Geometry). HasPlainTables g.size (said list) (shown store.dirty j))
           (sym goes.goes.geometry) none_indexed;
+      no_directory = shows.no_directory;
+      noted = subst (λ (g : Geometry). HasDirectories g.size (said list) (shown store.dirty j) old.directories)
+          (sym goes.goes.geometry) noted_now;
     }
 
     pub leaves_with : LeavesHistory m old.store.disk store.disk packed_form old.store.dirty.size o h

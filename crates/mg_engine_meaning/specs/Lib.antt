@@ -46,6 +46,7 @@ pub mod OpeningsRefusedLaws
 pub mod PlainLaws
 pub mod PlainTables
 pub mod ReadLaws
+pub mod DirectoryLaws
 pub mod Reads
 pub mod RefusalLaws
 pub mod RollbackEnds

@@ -171,6 +171,8 @@ module _ {D P : Type 0} (m : Meaning D) (places : Places P) (old : Core D) (wait
               tips = shows.tips;
               catalog = shows.catalog;
               plain_tables = shows.plain_tables;
+              no_directory = shows.no_directory;
+              noted = shows.noted;
             }
         by (Some faults) keeps = record {
           stands = on old.store.geometry.size o h e (standing_of old stands.numbers stands.tables)

@@ -1,5 +1,5 @@
 -- An engine over a disk that was opened stands for the history that begins with the disk's image.
-use Rattle.std.proofs.Common.{◌≡◌, ℕ, List, [], None, Some, Ok, sym, ap, ◌∙◌, subst}
+use Rattle.std.proofs.Common.{◌≡◌, ℕ, List, [], None, Some, Ok, refl, sym, ap, ◌∙◌, subst}
 use Rattle.std.proofs.Math.Path.{fun_ext}
 use Rattle.mg_base.specs.Disk.{Meaning}
 use Rattle.mg_base.specs.Image.{Image, page_at}
@@ -10,6 +10,7 @@ use Rattle.mg_core.specs.Opening.{Opens}
 use Rattle.mg_core.specs.declared.parts.Core.{Core}
 use Rattle.mg_database.specs.Loading.{SaysPages}
 use Rattle.mg_database.specs.Tested.{IsTested}
+use Rattle.mg_directory.specs.Candidates.{Kept, by_table}
 use Rattle.mg_engine_meaning.specs.PlainTables.{HasPlainTables}
 use Rattle.mg_engine_meaning.specs.Standings.{AreSeen, KeepsWritten, ShowsIt, StandsFor, StandsWhile, standing_of}
 use Rattle.mg_header.specs.HeaderPage.{reading}
@@ -25,6 +26,10 @@ use Rattle.mg_model.specs.Answers.{is_open}
 use Rattle.mg_model.specs.Laws.{OpeningsBegin}
 use Rattle.mg_model.specs.Machine.{opening_state}
 use Rattle.mg_model.specs.declared.opening.Opening.{Opening}
+use Rattle.mg_model.specs.Openings.{everyone}
+use Rattle.mg_noted.specs.ComingLaws.{none_has}
+use Rattle.mg_noted.specs.Noted.{HasDirectories}
+use Rattle.mg_overlays.specs.Overlays.{left_state}
 use Rattle.mg_pool.specs.Dirty.{DirtyPages}
 use Rattle.mg_pool.specs.Pool.{shown}
 use Rattle.mg_space.specs.View.{Tells}
@@ -148,6 +153,10 @@ module _ {D : Type 0} (m : Meaning D) (disk : D) (limit : ℕ) (core : Core D) (
     tips = tips_shown its_size its_pages core.list opens.idle.core_is.size its_head.head;
     catalog = ap (λ (p : PageNo). p.0) its_head.catalog_is;
     plain_tables = plain_tables;
+    no_directory = ap (λ (k : Kept). by_table k.dirs core.catalog.pointer.0) opens.idle.directories;
+    noted = subst (HasDirectories its_size (said core.list) its_pages) (sym opens.idle.directories)
+        (none_has packed_form its_size (left_state everyone (said core.list)) its_pages (by_table [])
+        (λ first. refl));
   }
 
   given : AreSeen core.works (λ t name. None)

@@ -16,6 +16,7 @@ use Rattle.mg_engine_steps.specs.Batches.{ReadsLast}
 use Rattle.mg_image.specs.Form.{packed_form}
 use Rattle.mg_image.specs.Inventory.{header_of}
 use Rattle.mg_lasting.specs.Crashes.{HoldsAcknowledged, LeavesSince}
+use Rattle.mg_noted.specs.Noted.{HasDirectories}
 use Rattle.mg_pool.specs.Dirty.{DirtyPages, is_marked}
 use Rattle.mg_pool.specs.Pool.{shown}
 use Rattle.mg_pool.specs.declared.pool.Pool.{Pool}
@@ -77,6 +78,10 @@ module _ {D P : Type 0} (m : Meaning D) (places : Places P) (begin : OpeningsBeg
     plain_tables = subst (λ (g : Geometry). HasPlainTables g.size (said old.list) (shown store.dirty shows.image))
         (sym keeps.geometry) (subst (λ (d : DirtyPages). HasPlainTables old.store.geometry.size (said old.list)
         (shown d shows.image)) (sym keeps.dirty) shows.plain_tables);
+    no_directory = shows.no_directory;
+    noted = subst (λ (g : Geometry). HasDirectories g.size (said old.list) (shown store.dirty shows.image)
+        old.directories) (sym keeps.geometry) (subst (λ (d : DirtyPages). HasDirectories old.store.geometry.size
+        (said old.list) (shown d shows.image) old.directories) (sym keeps.dirty) shows.noted);
   }
 
   -- once a page write has failed

@@ -48,6 +48,11 @@ use Rattle.mg_engine_steps.specs.Following.{FollowsEntry, StandsOn}
 use Rattle.mg_engine_steps.specs.Standing.{Standing}
 use Rattle.mg_engine_steps.specs.Walking.{WalkPlace}
 use Rattle.mg_image_overlays.specs.OneTable.{its_data}
+use Rattle.mg_directory.specs.Candidates.{Kept, by_table}
+use Rattle.mg_image_overlays.specs.OneLayout.{StandsOneWay}
+use Rattle.mg_noted.specs.ChoiceTables.{table_in_first}
+use Rattle.mg_noted.specs.EndedLaws.{chosen_has}
+use Rattle.mg_noted.specs.Noted.{HasDirectories, HasNoted}
 use Rattle.mg_txlist.specs.TxList.{EndsIn, said}
 use Rattle.mg_txlist.specs.declared.list.TxList.{TxList}
 use Rattle.mg_waits.specs.Waits.{NowWaits, edges_in}
@@ -152,9 +157,25 @@ none_by_dead size state now pages t active dead others none = plain_tables_by si
       tables = λ its there. there;
     })
 
+-- directories are complete still
+pub noted_by_dead : RowsAreOne packed_coding → StandsOneWay packed_form → (size : ℕ) (state now : ℕ → TxState)
+    (pages : Pages) (t : ℕ) → state t ≡ Active → now t ≡ Dead → ((u : ℕ) → u ≢ t → now u ≡ state u)
+    → HasPlainTables size state pages → (a : Layout) (r : Reading)
+    → IsSoundBy packed_form size (left_state everyone state) pages a r → (kept : Kept)
+    → HasDirectories size state pages kept → HasDirectories size now pages kept
+noted_by_dead one ways size state now pages t active dead others plain a r first kept noted =
+    subst (λ (x : ℕ → TxState). HasNoted packed_form size x pages (by_table kept.dirs))
+    (sym (dead_same state now t active dead others everyone))
+    (λ b s second. chosen_has packed_form one ways size state pages a r first (without t everyone) b s second
+    (table_in_first one size state pages a r first (without t everyone) b s second
+    (λ x there. (plain everyone a r first x there).no_index)
+    (λ x there. (plain (without t everyone) b s second x there).no_index))
+    (by_table kept.dirs) (by_table kept.dirs) noted (λ first_ dir is. is) b s second)
+
 -- ---- the engine
 
 module _ {D P : Type 0} (m : Meaning D) (places : Places P) (one : RowsAreOne packed_coding)
+    (ways : StandsOneWay packed_form)
     (begins : OpeningsBegin) (rolls : RollbacksGoOn D FireLinks m) (take : OthersTakeAlike) (go : WalksGoAlike)
     (old : Core D) (core : IsCore m old) (waits : List (ℕ × ℕ)) (list : TxList) (t : TxNo)
     (continues : Continues old t.0) (over : NowWaits (edges_in old.waits) (edges_in waits) t.0 None)
@@ -200,6 +221,10 @@ module _ {D P : Type 0} (m : Meaning D) (places : Places P) (one : RowsAreOne pa
         catalog = shows.catalog;
         plain_tables = none_by_dead old.store.geometry.size (said old.list) (said list)
             (shown old.store.dirty shows.image) t.0 continues.1 ends.here ends.others shows.plain_tables;
+        no_directory = shows.no_directory;
+        noted = noted_by_dead one ways old.store.geometry.size (said old.list) (said list)
+            (shown old.store.dirty shows.image) t.0 continues.1 ends.here ends.others shows.plain_tables
+            shows.stands.shows.layout shows.stands.shows.reading shows.stands.shows.sound old.directories shows.noted;
       }
 
   shows_of : (o : Opening) (h : Entries) (stands : StandsFor m old o h)
@@ -323,15 +348,16 @@ module _ {D P : Type 0} (m : Meaning D) (places : Places P) (one : RowsAreOne pa
 
 pub rollbacks_give : {D P : Type 0} (m : Meaning D) (places : Places P)
     → IdleGoesOn D FireLinks m packed_form → StandsOn packed_form → QuietHolds packed_form
-    → RowsAreOne packed_coding → OpeningsBegin → RollbacksGoOn D FireLinks m → OthersTakeAlike → WalksGoAlike
+    → RowsAreOne packed_coding → StandsOneWay packed_form → OpeningsBegin → RollbacksGoOn D FireLinks m
+    → OthersTakeAlike → WalksGoAlike
     → (old new : Core D) (t : TxNo) (result : Result (Unit {0}) Refusal) → IsCore m old → AreApart old.works
     → MatchResult result (λ _. RollsBack old new t.0) (IsRefused old new t.0)
     → GivesEvent m places old new (Rollback t) (fine_or result) (refusal_in result) (Some t.0) (Some t.0) None
     (ended_in t.0 result)
-rollbacks_give m places idle_goes on quiet one begins rolls take go old new t (Err refusal) core apart refused =
+rollbacks_give m places idle_goes on quiet one ways begins rolls take go old new t (Err refusal) core apart refused =
     refused_gives m places idle_goes on quiet old new t.0 (Rollback t) (λ o h. Fine) refusal (Some t.0) (Some t.0)
     refl (λ o h. refl) refused
-rollbacks_give {D} m places idle_goes on quiet one begins rolls take go old new t (Ok x) core apart gives =
+rollbacks_give {D} m places idle_goes on quiet one ways begins rolls take go old new t (Ok x) core apart gives =
     subst (λ (c : Core D). GivesEvent m places old c (Rollback t) Fine None (Some t.0) (Some t.0) None (Some t.0))
-    (sym gives.same) (rollback_gives m places one begins rolls take go old core new.waits new.list t gives.continues
+    (sym gives.same) (rollback_gives m places one ways begins rolls take go old core new.waits new.list t gives.continues
     gives.over gives.ends gives.pages apart)

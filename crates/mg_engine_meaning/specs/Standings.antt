@@ -2,6 +2,7 @@
 use Rattle.std.specs.Prelude.{◌≡◌, ◌⊎◌, ◌<◌, ℕ, Bool, true, false, List, [], ◌∷◌, Option, None, Some, is_some}
 use Rattle.mg_base.specs.Disk.{Meaning}
 use Rattle.mg_base.specs.Image.{Image}
+use Rattle.mg_directory.specs.Candidates.{by_table}
 use Rattle.mg_grown_catalogs.specs.Grown.{CatalogGrows}
 use Rattle.mg_header.specs.declared.header.TheConstants.{GREATEST_NEXT}
 use Rattle.mg_image.specs.Catalog.{IsSameTable}
@@ -13,6 +14,7 @@ use Rattle.mg_model.specs.declared.event.Mode.{Mode}
 use Rattle.mg_model.specs.declared.opening.Opening.{Opening}
 use Rattle.mg_model.specs.declared.table.Table.{Table}
 use Rattle.mg_model.specs.History.{Entries}
+use Rattle.mg_noted.specs.Noted.{HasDirectories}
 use Rattle.mg_pool.specs.Pool.{shown}
 use Rattle.mg_pool_overlays.specs.Needs.{Asked, Sessions}
 use Rattle.mg_engine_steps.specs.Standing.{Standing, Stands}
@@ -117,8 +119,8 @@ abbrev pub HasTips : TxList → ℕ → Pages → Type 0
 HasTips list size pages = (t : ℕ) → t < next_of pages → ShowsTip list size pages t
 
 -- The pages of an engine that stands for a history: they show it, every crash leaves what it has to, the
--- transaction list has the pages of all transactions, the catalog begins where the header says, and each table is
--- plain.
+-- transaction list has the pages of all transactions, the catalog begins where the header says, each table is plain,
+-- the catalog has no directory of keys, and each table that has one has each of its records there, under its key.
 pub record ShowsIt {D : Type 0} (m : Meaning D) (core : Core D) (o : Opening) (h : Entries)
     (s : Standing) : Type 0 where
   pub image : Image
@@ -129,6 +131,8 @@ pub record ShowsIt {D : Type 0} (m : Meaning D) (core : Core D) (o : Opening) (h
   pub tips : HasTips core.list core.store.geometry.size (shown core.store.dirty image)
   pub catalog : core.catalog.pointer.0 ≡ (header_of (shown core.store.dirty image)).catalog.0
   pub plain_tables : HasPlainTables core.store.geometry.size (said core.list) (shown core.store.dirty image)
+  pub no_directory : by_table core.directories.dirs core.catalog.pointer.0 ≡ None
+  pub noted : HasDirectories core.store.geometry.size (said core.list) (shown core.store.dirty image) core.directories
 
 -- Once a page write has failed: memory is what the history says, and every crash leaves what it has to.
 pub record KeepsIt {D : Type 0} (m : Meaning D) (core : Core D) (o : Opening) (h : Entries)

@@ -42,6 +42,7 @@ use Rattle.mg_space.specs.declared.links.FireLinks.{FireLinks}
 use Rattle.mg_chain.specs.Chains.{takes_version}
 use Rattle.mg_image.specs.Sound.{IsSoundBy}
 use Rattle.mg_model.specs.Openings.{everyone}
+use Rattle.mg_noted.specs.Noted.{HasDirectories}
 use Rattle.mg_overlays.specs.Overlays.{left_state}
 use Rattle.mg_seek.specs.Walks.{records_behind, rows_shown}
 use Rattle.mg_snap.specs.Live.{State as Bases}
@@ -188,6 +189,11 @@ module _ {D P : Type 0} (m : Meaning D) (places : Places P) (holds : HoldsOne D 
               (sym run.geometry)
               (subst (λ (pages : Pages). HasPlainTables old.store.geometry.size (said old.list) pages) same
               shows.plain_tables);
+          no_directory = shows.no_directory;
+          noted = subst (λ (g : Geometry). HasDirectories g.size (said old.list) (shown store.dirty j) old.directories)
+              (sym run.geometry)
+              (subst (λ (pages : Pages). HasDirectories old.store.geometry.size (said old.list) pages old.directories)
+              same shows.noted);
         },
         all.2,
       )

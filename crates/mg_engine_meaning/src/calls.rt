@@ -77,6 +77,7 @@ pub fn rollbacks_go<D: Disk, P>()
     standings_go_on();
     crashes_hold();
     one_reading();
+    sound_images_stand_one_way();
     histories_go_on();
     rollbacks_go_on::<D, FireLinks>();
     others_take_alike();

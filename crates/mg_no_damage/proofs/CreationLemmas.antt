@@ -2,6 +2,8 @@
 use Rattle.std.proofs.Common.{◌≡◌, ◌≢◌, ◌∙◌, ◌+◌, ℕ, Bool, true, false, List, [], ◌∷◌, Option, None, Some, Ok, Err, inl, inr, map, refl, sym, ap, subst}
 use Rattle.std.specs.Prelude.{is_some, length}
 use Rattle.std.proofs.lemmas.Bool.{false≢true}
+use Rattle.mg_directory.specs.Candidates.{ByKey, at_key, by_table}
+use Rattle.mg_sortkey.specs.KeyBytes.{key_bytes}
 use Rattle.mg_base.specs.Disk.{Meaning}
 use Rattle.mg_base.specs.declared.geometry.Geometry.{Geometry}
 use Rattle.mg_base.specs.declared.numbers.PageNo.{PageNo}
@@ -13,7 +15,7 @@ use Rattle.mg_core.specs.Cores.{Continues, IsCore}
 use Rattle.mg_core.specs.Obstacles.{IsOfRecord, StopsAtRecord}
 use Rattle.mg_core.specs.Reading.{FailsReading}
 use Rattle.mg_core.specs.Refusing.{CountsFault}
-use Rattle.mg_core.specs.Writing.{HasBegun, IsOfKey, ReadsRow, WhyOfKey, row_unread}
+use Rattle.mg_core.specs.Writing.{HasBegun, IsOfKey, KnowsKey, ReadsRow, WhyOfKey, WhyOfKnown, row_unread}
 use Rattle.mg_core.specs.declared.parts.Core.{Core}
 use Rattle.mg_no_damage.specs.CoreReads.{RecordsArePassed, RowsAreFound, ShowsTable}
 use Rattle.mg_engine_meaning.specs.KeepLaws.{catalog_shown}
@@ -49,6 +51,7 @@ use Rattle.mg_model.specs.Laws.{OpeningsBegin}
 use Rattle.mg_model.specs.Machine.{state_of, view}
 use Rattle.mg_model.specs.declared.opening.Opening.{Opening}
 use Rattle.mg_model.specs.declared.refusal.Refusal.{Refusal}
+use Rattle.mg_model.specs.declared.refusal.Refusal.TheVariants.{Damaged}
 use Rattle.mg_model.specs.declared.table.Table.{Table}
 use Rattle.mg_no_damage.specs.Sound.{SoundRecordsAreLawful, SoundTablesStand}
 use Rattle.mg_no_damage.specs.Batches.{ShowsSound}
@@ -246,12 +249,34 @@ module _ {D : Type 0} (m : Meaning D) (parts : MakingParts m) (old new : Core D)
 
   -- ---- the keys, one after another
 
+  -- the catalog has no directory
+  bare_at : (now : Core D) → HasRead m old now t.0 → (key : Value)
+      → KnowsKey now now.catalog key (shown now.store.dirty shows.image)
+  bare_at now had key candidates is =
+      let bare : by_table now.directories.dirs now.catalog.pointer.0 ≡ None =
+      ap (λ (c : Core D). by_table c.directories.dirs c.catalog.pointer.0) had.same ∙ shows.no_directory in
+      let none : None ≡ Some candidates =
+      sym (ap (λ (found : Option ByKey). at_key found (key_bytes key)) bare) ∙ is in absurd cc
+
   unread : (now : Core D) → HasRead m old now t.0 → (key : Value) (refusal : Refusal)
       → FailsReading m now new (WhyOfKey m now t now.catalog key) refusal → new.damage ≡ old.damage
   unread now had key refusal fails = unread_stands m now new (WhyOfKey m now t now.catalog key) refusal fails
       (λ page field a b same. parts.rows_found now new shows.image now.catalog (catalog_at now had) t key
-      (writes.Erase key) page field a b (row_unread (subst (FailsReading m now new (WhyOfKey m now t now.catalog key))
-      same fails))) ∙ count_at now had
+      (writes.Erase key) (bare_at now had key) page field a b (row_unread (as_known (Damaged page field a b)
+      (subst (FailsReading m now new (WhyOfKey m now t now.catalog key)) same fails)))) ∙ count_at now had
+    where
+      as_known : (r : Refusal) → FailsReading m now new (WhyOfKey m now t now.catalog key) r
+          → FailsReading m now new (WhyOfKnown m now t now.catalog key) r
+      as_known r is = record {
+        fault = is.fault;
+        is = is.is;
+        own = is.own;
+        told = is.told;
+        keeps = is.keeps;
+        caused = λ image tells known. is.caused image tells;
+        counts = is.counts;
+        same = is.same;
+      }
 
   free_on : (now read : Core D) (key : Value) → HasRead m old now t.0 → IsFreeKey m now read t key
       → HasRead m old read t.0

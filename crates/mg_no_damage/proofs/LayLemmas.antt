@@ -1,5 +1,6 @@
 -- An engine that has read all that a write asks for lays the version without damage: its pages show a sound image, and
 -- so do those that the first batch of two leaves.
+use Rattle.mg_engine_meaning.specs.DirectoryLaws.{knows_key}
 use Rattle.mg_base.specs.Disk.{Meaning}
 use Rattle.mg_base.specs.Image.{Image}
 use Rattle.mg_base.specs.declared.damage.Damaged.{Damaged}
@@ -12,7 +13,7 @@ use Rattle.mg_chain.specs.Writing.{GivesSpot}
 use Rattle.mg_core.specs.Cores.{IsCore}
 use Rattle.mg_core.specs.Obstacles.{IsOfRecord}
 use Rattle.mg_core.specs.Putting.{StandsBefore}
-use Rattle.mg_core.specs.Writing.{HasBegun, IsFree, IsOfKey}
+use Rattle.mg_core.specs.Writing.{HasBegun, IsFree, IsOfKey, KnowsKey}
 use Rattle.mg_core.specs.declared.parts.Core.{Core}
 use Rattle.mg_engine_changes.specs.Clearing.{HasCleared}
 use Rattle.mg_engine_changes.specs.Enters.{cleared_told, dead_cleared, placed_told, spot_taken, tells, there}
@@ -103,7 +104,7 @@ module _ {D P : Type 0} (m : Meaning D) (places : Places P) (parts : WriteParts 
 
   answered : answer o h (event_of t table.name write) ≡ Fine
   answered = free_answer parts.speakers parts.obstacles parts.rows parts.nothing parts.begin parts.verdicts
-      parts.nobody m places parts.counts_now old core t table write given begun.continues o h stands ready.free
+      parts.nobody parts.dirs m places parts.counts_now old core t table write given begun.continues o h stands ready.free
       ready.wait ready.rec free
 
   -- ---- pages were read
@@ -153,8 +154,11 @@ module _ {D P : Type 0} (m : Meaning D) (places : Places P) (parts : WriteParts 
   facts = (
     subst (λ (r : Option RecId). IsSpeaker (said old.list) old.live (shown read.store.dirty mid_shows.image) table
         (written_at table write) r) (sym free.has_found.finds.is) (told_mid free.has_found.passed passed_since
-        (λ c view. IsOfKey c t table (written_at table write) free.has_found.finds.found view)
-        free.has_found.finds.reads.told).spoken,
+        (λ c view. KnowsKey c table (written_at table write) view
+        → IsOfKey c t table (written_at table write) free.has_found.finds.found view)
+        free.has_found.finds.reads.told (knows_key m (record old { store = read.store }) o h mid_stands.numbers
+        mid_stands.tables mid_shows parts.dirs.walked table its_there parts.dirs.speakers
+        (written_at table write))).spoken,
     none_passed (said old.list) old.live t.0 (shown read.store.dirty mid_shows.image) ready.rec
         (edges_in free.found.waits) ready.wait free.passes.found (told_mid free.found found_since
         (λ c view. IsOfRecord c t ready.rec view free.passes.found) free.passes.told) free.passes.passed,
@@ -183,14 +187,14 @@ module _ {D P : Type 0} (m : Meaning D) (places : Places P) (parts : WriteParts 
     taken = spot_taken parts.speakers parts.befores parts.follow parts.may_write parts.coded parts.lists m places
         parts.unask (record old { store = read.store }) since.keeps.pool o h mid_stands mid_shows t begun.continues.1
         begun.may.work work_is table given write fits storable read.waits since.over before version ready.has.stored
-        answered noted parts.holds mid_geometry placed parts.one parts.begin parts.on parts.behind parts.still
+        answered noted parts.holds mid_geometry placed parts.one parts.dirs.one_way parts.begin parts.on parts.behind parts.still
         silent_there at takes
 
     taken_told : m.tells placed.disk ≡ true
     taken_told = placed_told parts.speakers parts.befores parts.follow parts.may_write parts.coded parts.lists m places
         parts.unask (record old { store = read.store }) since.keeps.pool o h mid_stands mid_shows t begun.continues.1
         begun.may.work work_is table given write fits storable read.waits since.over before version ready.has.stored
-        answered noted parts.holds mid_geometry placed parts.one parts.begin parts.on parts.behind parts.still
+        answered noted parts.holds mid_geometry placed parts.one parts.dirs.one_way parts.begin parts.on parts.behind parts.still
         silent_there at takes
 
   -- ---- a dead transaction's version was taken out
@@ -206,14 +210,14 @@ module _ {D P : Type 0} (m : Meaning D) (places : Places P) (parts : WriteParts 
     cleared = dead_cleared parts.speakers parts.befores parts.follow parts.may_write parts.coded parts.lists m places
         parts.unask (record old { store = read.store }) since.keeps.pool o h mid_stands mid_shows t begun.continues.1
         begun.may.work work_is table given write fits storable read.waits since.over before version ready.has.stored
-        answered noted parts.holds mid_geometry placed parts.one parts.on parts.behind parts.keep_plain
+        answered noted parts.holds mid_geometry placed parts.one parts.dirs.one_way parts.on parts.behind parts.keep_plain
         parts.ways_free parts.speak parts.deads rec at_record.0 at_record.2 way at_record.1 takes
 
     cleared_tells : m.tells placed.disk ≡ true
     cleared_tells = cleared_told parts.speakers parts.befores parts.follow parts.may_write parts.coded parts.lists m
         places parts.unask (record old { store = read.store }) since.keeps.pool o h mid_stands mid_shows t
         begun.continues.1 begun.may.work work_is table given write fits storable read.waits since.over before version
-        ready.has.stored answered noted parts.holds mid_geometry placed parts.one parts.on parts.behind
+        ready.has.stored answered noted parts.holds mid_geometry placed parts.one parts.dirs.one_way parts.on parts.behind
         parts.keep_plain parts.ways_free parts.speak parts.deads rec at_record.0 at_record.2 way at_record.1 takes
 
   -- ---- the pages that were read

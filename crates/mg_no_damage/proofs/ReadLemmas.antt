@@ -1,5 +1,5 @@
 -- What is read for a write is read without damage.
-use Rattle.std.proofs.Common.{inl, inr, ℕ, Bool, Option, None, Some, sym, subst}
+use Rattle.std.proofs.Common.{inl, inr, ℕ, Bool, [], Option, None, Some, sym, subst}
 use Rattle.std.specs.Prelude.{Err}
 use Rattle.mg_base.specs.Disk.{Meaning}
 use Rattle.mg_base.specs.Image.{Image}
@@ -7,11 +7,12 @@ use Rattle.mg_base.specs.declared.damage.Damaged.{Damaged as Damage}
 use Rattle.mg_base.specs.declared.damage.Field.{Field}
 use Rattle.mg_base.specs.declared.geometry.Geometry.{Geometry}
 use Rattle.mg_base.specs.declared.numbers.PageNo.{PageNo}
+use Rattle.mg_core.specs.Noting.{WhyNotMade}
 use Rattle.mg_core.specs.Obstacles.{HindersBy, Stops, TellsVerdict, WhyOfRecord, WhyOfTable, hindered, unread}
 use Rattle.mg_core.specs.Putting.{WhyNotBefore}
 use Rattle.mg_core.specs.Reading.{FailsReading}
 use Rattle.mg_core.specs.Refusing.{IsRefusal}
-use Rattle.mg_core.specs.Writing.{IsWrong, WhyOfKey, row_unread, row_wrong}
+use Rattle.mg_core.specs.Writing.{IsWrong, WhyOfKey, WhyOfKnown, row_unread, row_wrong}
 use Rattle.mg_core.specs.declared.parts.Core.{Core}
 use Rattle.mg_heap.specs.Reading.{ReadsData}
 use Rattle.mg_image.specs.Form.{Pages}
@@ -22,14 +23,14 @@ use Rattle.mg_model.specs.declared.refusal.Refusal.TheVariants.{Damaged}
 use Rattle.mg_model.specs.declared.table.Table.{Table}
 use Rattle.mg_no_damage.specs.Keys.{KeysAreRead, ObstaclesAreRead, SpeakersAreRead, WaysAreRead}
 use Rattle.mg_no_damage.specs.Sees.{AreLawful, StandsOn, no_batch}
-use Rattle.mg_no_damage.specs.Tables.{SeesTable}
+use Rattle.mg_no_damage.specs.Tables.{SeesTable, TablesAreRead}
 use Rattle.mg_pool.specs.Dirty.{DirtyPages}
 use Rattle.mg_pool.specs.Pool.{shown}
 use Rattle.mg_pool.specs.declared.fault.PoolFault.TheVariants as faults
 use Rattle.mg_pool.specs.declared.pool.Pool.{Pool}
 use Rattle.mg_records.specs.declared.write.Write.{Write}
 use Rattle.mg_records.specs.declared.write.Write.TheVariants as writes
-use Rattle.mg_seek.specs.Speaking.{IsSpeaker}
+use Rattle.mg_seek.specs.Speaking.{IsSpeaker, RefusesTableRows}
 use Rattle.mg_seek.specs.Versions.{wants}
 use Rattle.mg_seek.specs.declared.views.Obstacle.{Obstacle}
 use Rattle.mg_seek.specs.declared.whose.Wanted.TheVariants.{Any}
@@ -41,7 +42,7 @@ use Rattle.mg_space.specs.declared.links.FireLinks.{FireLinks}
 use Rattle.mg_txlist.specs.TxList.{said}
 use Rattle.mg_waits.specs.declared.verdict.Verdict.{Verdict}
 use Rattle.mg_waits.specs.declared.verdict.Verdict.TheVariants as verdicts
-use Rattle.mg_no_damage.specs.CoreReads.{BeforesAreRead, RecordsArePassed, RowsAreFound, TablesArePassed}
+use Rattle.mg_no_damage.specs.CoreReads.{BeforesAreRead, KeysAreNoted, RecordsArePassed, RowsAreFound, TablesArePassed}
 
 -- a cache that has only read sees the table as before
 sees_on : {D : Type 0} (m : Meaning D) (a b : Pool D FireLinks) (image : Image) (f : Facts) (r : Reading)
@@ -127,14 +128,14 @@ module _ {D : Type 0} (m : Meaning D) where
       stops
 
   pub rows_are_found : KeysAreRead m → RowsAreFound m
-  rows_are_found law old new image table shows t key write page field found wanted (row_unread fails) =
-      read_whole m old new (WhyOfKey m old t table key) image shows.sees.sees.tells
+  rows_are_found law old new image table shows t key write known page field found wanted (row_unread fails) =
+      read_whole m old new (WhyOfKnown m old t table key) image shows.sees.sees.tells
       (λ store keeps it cause. law store image shows.facts shows.reading shows.stand table
       (sees_on m old.store store image shows.facts shows.reading shows.stand table keeps shows.sees)
       (said old.list) old.live t key it (as_now old.store store image
-      (λ (view : Pages). WhyOfKey m old t table key store view (space.Damaged it)) keeps cause)) page field found
+      (λ (view : Pages). WhyOfKey m old t table key store view (space.Damaged it)) keeps (cause known))) page field found
       wanted fails
-  rows_are_found law old new image table shows t key write page field found wanted (row_wrong seen reads is) =
+  rows_are_found law old new image table shows t key write known page field found wanted (row_wrong seen reads is) =
       wrong write _ page field found wanted is
 
   pub records_are_passed : WaysAreRead m → RecordsArePassed m
@@ -157,3 +158,12 @@ module _ {D : Type 0} (m : Meaning D) where
       (wants (said old.list) old.live Any) it (as_now old.store store image
       (λ (view : Pages). WhyNotBefore m old table rec store view (space.Damaged it)) keeps cause)) page field found
       wanted fails
+
+  pub keys_are_noted : TablesAreRead m → KeysAreNoted m
+  keys_are_noted law old new image table shows page field found wanted fails =
+      read_whole m old new (WhyNotMade m old table) image shows.sees.sees.tells
+      (λ store keeps it cause. law store image no_batch shows.facts shows.reading shows.stand table
+      (sees_on m old.store store image shows.facts shows.reading shows.stand table keeps shows.sees)
+      (wants (said old.list) old.live Any) it (as_now old.store store image
+      (λ (view : Pages). RefusesTableRows m store [] view (wants (said old.list) old.live Any) table
+      (space.Damaged it)) keeps cause.0)) page field found wanted fails

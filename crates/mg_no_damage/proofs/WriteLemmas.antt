@@ -1,5 +1,6 @@
 -- A row is written without damage.
 use Rattle.std.proofs.Common.{◌≡◌, ◌∙◌, Option, ℕ, Bool, true, Some, Ok, Err, refl, ap, subst}
+use Rattle.mg_engine_meaning.specs.DirectoryLaws.{knows_key}
 use Rattle.mg_base.specs.Disk.{Meaning}
 use Rattle.mg_base.specs.declared.numbers.RecId.{RecId}
 use Rattle.mg_base.specs.declared.numbers.TxNo.{TxNo}
@@ -30,7 +31,7 @@ use Rattle.mg_core.specs.declared.parts.Core.{Core}
 use Rattle.mg_core.specs.Cores.{Continues, IsCore}
 use Rattle.mg_core.specs.Putting.{FailsKept, FailsPut, no_before, no_lay, no_version, not_kept, not_laid, too_long}
 use Rattle.mg_core.specs.Refusing.{CountsFault}
-use Rattle.mg_core.specs.Writing.{FailsWrite, IsFree, Writes, at_record, at_row, at_table, no_key, not_begun, not_put, only_reads}
+use Rattle.mg_core.specs.Writing.{FailsWrite, IsFree, Writes, at_record, at_row, at_table, no_key, not_begun, not_put, only_reads, KnowsKey}
 use Rattle.mg_no_damage.specs.CoreReads.{BeforesAreRead, KeysAreNamed, RecordsArePassed, RowsAreFound, ShowsTable, TablesArePassed}
 use Rattle.mg_engine_changes.specs.KeptTables.{NotedTablesAreKept, NotedWorksStay, NotesStay}
 use Rattle.mg_engine_changes.specs.Laid.{HasNoted}
@@ -101,6 +102,10 @@ module _ {D P : Type 0} (m : Meaning D) (places : Places P) (parts : WriteParts 
         (left_state everyone (standing_of old stands.numbers stands.tables).state) (shown old.store.dirty shows.image)
         shows.stands.shows.layout shows.stands.shows.reading shows.stands.shows.sound there.its there.stands)
 
+    known : KnowsKey old table (written_at table write) (shown old.store.dirty shows.image)
+    known = knows_key m old o h stands.numbers stands.tables shows parts.dirs.walked table there parts.dirs.speakers
+        (written_at table write)
+
   -- the version is not laid
   kept_stands : (read : Core D) (before : Before) (v : Version) (refusal : Refusal)
       → IsReady m old read t table write before v
@@ -129,7 +134,7 @@ module _ {D P : Type 0} (m : Meaning D) (places : Places P) (parts : WriteParts 
       (free_read m parts.counts_now old core t table write free wait rec is).same
   put_stands free wait rec refusal is (no_before fails) =
       let begun = is.has_found.has_passed.has_begun.continues in
-      at_befores m parts.counts_now old core t table write (shows begun).image (tables begun) (catalogs begun)
+      at_befores m parts.counts_now old core t table write (shows begun).image (tables begun) (catalogs begun) (known begun)
       reads.befores free new wait rec refusal is fails
   put_stands free wait rec refusal is (no_lay read before v has fails) =
       kept_stands read before v refusal
@@ -141,19 +146,19 @@ module _ {D P : Type 0} (m : Meaning D) (places : Places P) (parts : WriteParts 
   failed refusal (not_begun is) = refused old new t.0 refusal is
   failed refusal (only_reads continues wait may) = ended old new t.0 wait
   failed refusal (at_table begun wait has stops) = at_tables m parts.counts_now old core t table write
-      (shows has.continues).image (tables has.continues) (catalogs has.continues) reads.tables begun new wait refusal
+      (shows has.continues).image (tables has.continues) (catalogs has.continues) (known has.continues) reads.tables begun new wait refusal
       has stops
   failed refusal (no_key passed wait has fails) =
       let begun = has.has_begun.continues in
-      at_keys m parts.counts_now old core t table write (shows begun).image (tables begun) (catalogs begun) reads.named
+      at_keys m parts.counts_now old core t table write (shows begun).image (tables begun) (catalogs begun) (known begun) reads.named
       (keyed begun) fits passed new wait refusal has fails
   failed refusal (at_row passed wait has some fails) =
       let begun = has.has_begun.continues in
-      at_rows m parts.counts_now old core t table write (shows begun).image (tables begun) (catalogs begun) reads.rows
+      at_rows m parts.counts_now old core t table write (shows begun).image (tables begun) (catalogs begun) (known begun) reads.rows
       passed new wait refusal has fails
   failed refusal (at_record found wait rec has stops) =
       let begun = has.has_passed.has_begun.continues in
-      at_records m parts.counts_now old core t table write (shows begun).image (tables begun) (catalogs begun)
+      at_records m parts.counts_now old core t table write (shows begun).image (tables begun) (catalogs begun) (known begun)
       reads.records found new wait rec refusal has stops
   failed refusal (not_put free wait rec is fails) = put_stands free wait rec refusal is fails
 

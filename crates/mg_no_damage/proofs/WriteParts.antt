@@ -1,4 +1,5 @@
 -- The laws that a write asks for.
+use Rattle.mg_engine_changes.specs.Directories.{DirectoriesTell}
 use Rattle.mg_base.specs.Disk.{Meaning}
 use Rattle.mg_engine_steps.specs.AnswersLaws.{NothingAtKeys, ObstaclesAtKeys, RowsAtKeys, SpeakersAreTold}
 use Rattle.mg_engine_steps.specs.Batches.{ReadsLast, RowsLastStill}
@@ -41,6 +42,7 @@ pub record WriteParts {D : Type 0} (m : Meaning D) : Type 0 where
   pub behind : BehindKeepsTips
   pub keep_plain : WritesKeepPlain
   pub ways_free : WaysAreFree
+  pub dirs : DirectoriesTell
   pub counts_now : CountsNow m
   pub holds : HoldsOne D m
   pub unask : UnaskingLasts packed_form D FireLinks m

@@ -6,10 +6,11 @@ use Rattle.mg_base.specs.declared.damage.Field.{Field}
 use Rattle.mg_base.specs.declared.numbers.PageNo.{PageNo}
 use Rattle.mg_base.specs.declared.numbers.RecId.{RecId}
 use Rattle.mg_base.specs.declared.numbers.TxNo.{TxNo}
+use Rattle.mg_core.specs.Noting.{WhyNotMade}
 use Rattle.mg_core.specs.Obstacles.{StopsAtRecord, StopsAtTable}
 use Rattle.mg_core.specs.Putting.{WhyNotBefore}
 use Rattle.mg_core.specs.Reading.{FailsReading}
-use Rattle.mg_core.specs.Writing.{FailsKey, FailsRow}
+use Rattle.mg_core.specs.Writing.{FailsKey, FailsRow, KnowsKey}
 use Rattle.mg_core.specs.declared.parts.Core.{Core}
 use Rattle.mg_image.specs.RecordRules.{Facts}
 use Rattle.mg_image.specs.Records.{Reading}
@@ -45,10 +46,12 @@ KeysAreNamed D = (old new : Core D) (table : Table) (write : Write) → IsKeyed 
     → FitsShape table.shape write → (page : PageNo) (field : Field) (found wanted : ℕ)
     → FailsKey old new table write (Damaged page field found wanted) → ⊥
 
--- the row in the view at a key is found, with the record that speaks for the key
+-- the row in the view at a key is found, with the record that speaks for the key, where the candidates that directories
+-- have for it are enough
 abbrev pub RowsAreFound : {D : Type 0} → Meaning D → Type 0
 RowsAreFound {D} m = (old new : Core D) (image : Image) (table : Table) → ShowsTable m old image table → (t : TxNo)
-    (key : Value) (write : Write) (page : PageNo) (field : Field) (found wanted : ℕ)
+    (key : Value) (write : Write) → KnowsKey old table key (shown old.store.dirty image) → (page : PageNo)
+    (field : Field) (found wanted : ℕ)
     → FailsRow m old new t table key write (Damaged page field found wanted) → ⊥
 
 -- who is in the way by the record that speaks for a key is found
@@ -66,3 +69,9 @@ BeforesAreRead {D} m = (old new : Core D) (image : Image) (table : Table) → Sh
     → IsSpeaker (said old.list) old.live (shown old.store.dirty image) table key rec
     → (page : PageNo) (field : Field) (found wanted : ℕ)
     → FailsReading m old new (WhyNotBefore m old table rec) (Damaged page field found wanted) → ⊥
+
+-- the keys of a table's records are read for its directory
+abbrev pub KeysAreNoted : {D : Type 0} → Meaning D → Type 0
+KeysAreNoted {D} m = (old new : Core D) (image : Image) (table : Table) → ShowsTable m old image table
+    → (page : PageNo) (field : Field) (found wanted : ℕ)
+    → FailsReading m old new (WhyNotMade m old table) (Damaged page field found wanted) → ⊥

@@ -40,7 +40,7 @@ use Rattle.mg_core.specs.Cores.{IsCore}
 use Rattle.mg_core.specs.Obstacles.{HindersBy, Stops, StopsAtRecord, StopsAtTable, TellsVerdict, hindered, unread}
 use Rattle.mg_core.specs.Putting.{WhyNotBefore}
 use Rattle.mg_core.specs.Reading.{FailsReading, OnlyReads}
-use Rattle.mg_core.specs.Writing.{FailsKey, FailsRow, HasBegun, HasFound, HasPassed, IsFree, key_memory, key_null, row_unread, row_wrong}
+use Rattle.mg_core.specs.Writing.{FailsKey, FailsRow, HasBegun, HasFound, HasPassed, IsFree, KnowsKey, key_memory, key_null, row_unread, row_wrong}
 use Rattle.mg_no_damage.specs.CoreReads.{BeforesAreRead, KeysAreNamed, RecordsArePassed, RowsAreFound, ShowsTable, TablesArePassed}
 use Rattle.mg_engine_changes.specs.Notes.{HasRead}
 use Rattle.mg_engine_changes.specs.RefusalLaws.{begun_read, found_read, free_read, passed_read}
@@ -113,7 +113,15 @@ speaks_on {D} m old new image table key rec reads speaks =
 
 module _ {D : Type 0} (m : Meaning D) (counts_now : CountsNow m) (old : Core D) (core : IsCore m old) (t : TxNo)
     (table : Table) (write : Write) (image : Image) (tables : ShowsTable m old image table)
-    (catalogs : ShowsTable m old image old.catalog) where
+    (catalogs : ShowsTable m old image old.catalog)
+    (known : KnowsKey old table (written_at table write) (shown old.store.dirty image)) where
+  -- what directories know stays so where pages are only read
+  known_at : (now : Core D) → HasRead m old now t.0
+      → KnowsKey now table (written_at table write) (shown now.store.dirty image)
+  known_at now had = subst (λ (c : Core D). KnowsKey c table (written_at table write) (shown now.store.dirty image))
+      (sym had.same) (subst (λ (x : DirtyPages). KnowsKey old table (written_at table write) (shown x image))
+      (sym had.keeps.dirty) known)
+
   table_at : (now : Core D) → HasRead m old now t.0 → ShowsTable m now image table
   table_at now had = table_on m old.store now.store image had.keeps old now table refl refl tables
 
@@ -152,7 +160,7 @@ module _ {D : Type 0} (m : Meaning D) (counts_now : CountsNow m) (old : Core D) 
       let had : HasRead m old passed t.0 = passed_read m counts_now old core t table write passed wait has in
       row_stands m passed new t table (written_at table write) write refusal fails
       (λ page field found wanted same. rows passed new image table (table_at passed had) t (written_at table write)
-      write page field found wanted (subst (FailsRow m passed new t table (written_at table write) write) same fails))
+      write (known_at passed had) page field found wanted (subst (FailsRow m passed new t table (written_at table write) write) same fails))
       ∙ count_at passed had
 
   -- who speaks for the key of the write
@@ -163,6 +171,7 @@ module _ {D : Type 0} (m : Meaning D) (counts_now : CountsNow m) (old : Core D) 
       (subst (λ (r : Option RecId). IsSpeaker (said has.passed.list) has.passed.live
       (shown has.passed.store.dirty image) table (written_at table write) r) (sym has.finds.is)
       (has.finds.reads.told image (tells_at has.passed
+      (passed_read m counts_now old core t table write has.passed wait has.has_passed)) (known_at has.passed
       (passed_read m counts_now old core t table write has.passed wait has.has_passed))).spoken)
 
   pub at_records : RecordsArePassed m → (found new : Core D) (wait : Bool) (rec : Option RecId) (refusal : Refusal)

@@ -1,8 +1,8 @@
 //! The laws.
 
-ghost use Rattle.mg_no_damage.specs.CoreReads.{BeforesAreRead, KeysAreNamed, RecordsArePassed, RowsAreFound, TablesArePassed};
+ghost use Rattle.mg_no_damage.specs.CoreReads.{BeforesAreRead, KeysAreNamed, KeysAreNoted, RecordsArePassed, RowsAreFound, TablesArePassed};
 
-use crate::keys_are_read;
+use crate::{keys_are_read, lawful_tables_are_read};
 use mg_base::Disk;
 
 /// A write has its key.
@@ -16,6 +16,8 @@ pub fn reads_meet_no_damage<D: Disk>()
     ensures rows { RowsAreFound D.meaning }
     ensures records { RecordsArePassed D.meaning }
     ensures befores { BeforesAreRead D.meaning }
+    ensures noted { KeysAreNoted D.meaning }
 {
     keys_are_read::<D>();
+    lawful_tables_are_read::<D>();
 }

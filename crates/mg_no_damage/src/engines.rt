@@ -14,7 +14,9 @@ use mg_engine_changes::{
 use mg_engine_steps::{
     batches_last, deads_go, keys_are_answered, lists_go_on, tips_stay, unasking_lasts,
 };
+use mg_heap::tables_of_layouts_are_walked;
 use mg_image::one_reading;
+use mg_image_overlays::sound_images_stand_one_way;
 use mg_model::histories_go_on;
 use mg_seek::records_are_those_of_every_reading;
 use mg_space::FireLinks;
@@ -57,6 +59,8 @@ pub fn writes_meet_no_damage<D: Disk>()
     stored_rows_are_coded();
     writes_keep_plain();
     ways_are_free();
+    sound_images_stand_one_way();
+    tables_of_layouts_are_walked();
     noted_tables_are_quiet::<D>();
     one_reading();
     tips_stay();

@@ -47,8 +47,8 @@
 //!
 //! Owns: that the engine answers no damage where it looks for who is in the way by a table's row of the catalog
 //! (`TablesArePassed`), for the row in the view at a key (`RowsAreFound`), for who is in the way there
-//! (`RecordsArePassed`), and for what stands there (`BeforesAreRead`). A write that fits its table has its key
-//! (`KeysAreNamed`).
+//! (`RecordsArePassed`), and for what stands there (`BeforesAreRead`); nor where the keys of a table's records are read
+//! for its directory (`KeysAreNoted`). A write that fits its table has its key (`KeysAreNamed`).
 //!
 //! # Whoever makes a table over a sound image meets no damage
 //!

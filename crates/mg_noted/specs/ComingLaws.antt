@@ -156,3 +156,18 @@ noted_by form one size state pages dirs layout r sound noted a s other =
     let (layouts, readings) = one size state pages layout a r s sound other in
     subst (λ (b : Layout). AreNoted (facts_by state pages b) s dirs) layouts
     (subst (λ (q : Reading). AreNoted (facts_by state pages layout) q dirs) readings noted)
+
+-- layout and reading stay, under other states and on other pages
+pub stayed_has : (form : Form) → StandsOneWay form → (size : ℕ) (state now : ℕ → TxState) (pages later : Pages)
+    (dirs : ByTable) (layout : Layout) (r : Reading) → IsSoundBy form size state pages layout r
+    → IsSoundBy form size now later layout r → HasNoted form size state pages dirs → HasNoted form size now later dirs
+stayed_has form one size state now pages later dirs layout r sound then_ noted =
+    noted_by form one size now later dirs layout r then_
+    (noted_stay (facts_by state pages layout) (facts_by now later layout) r r dirs dirs (noted layout r sound)
+    (left_come (facts_by state pages layout) (facts_by now later layout) r r (λ p table of some. (of, refl)))
+    (λ first dir is. is))
+
+-- there are none
+pub none_has : (form : Form) (size : ℕ) (state : ℕ → TxState) (pages : Pages) (dirs : ByTable)
+    → ((first : ℕ) → dirs first ≡ None) → HasNoted form size state pages dirs
+none_has form size state pages dirs none layout r sound = dropped_noted (facts_by state pages layout) r dirs none

@@ -1,8 +1,11 @@
 pub mod Noted
 pub mod Speaking
 pub mod SpeakingLaws
+pub mod EnoughLaws
+pub mod MadeLaws
 pub mod Coming
 pub mod ComingLaws
 pub mod WrittenLaws
 pub mod EndedLaws
 pub mod Statements
+pub mod ChoiceTables

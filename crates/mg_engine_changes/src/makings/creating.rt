@@ -12,7 +12,7 @@ use mg_engine_steps::{
     standings_go_on, tips_stay, unasking_lasts,
 };
 use mg_image::one_reading;
-use mg_image_overlays::owners_keep_stands_apart;
+use mg_image_overlays::{owners_keep_stands_apart, sound_images_stand_one_way};
 use mg_lasting::crashes_hold;
 use mg_model::histories_go_on;
 use mg_space::FireLinks;
@@ -24,6 +24,7 @@ pub fn tables_are_made<D: Disk, P>()
     ensures refused { TablesAreRefused D P D.meaning }
 {
     one_reading();
+    sound_images_stand_one_way();
     histories_go_on();
     tips_stay();
     owners_keep_stands_apart();
@@ -51,6 +52,7 @@ pub fn creations_keep_apart<D: Disk, P>()
     ensures refused { RefusalsKeepApart D P D.meaning }
 {
     one_reading();
+    sound_images_stand_one_way();
     histories_go_on();
     tips_stay();
     owners_keep_stands_apart();

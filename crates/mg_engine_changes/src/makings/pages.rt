@@ -7,7 +7,7 @@ ghost use Rattle.mg_image.specs.Form.{packed_form};
 use mg_base::Disk;
 use mg_engine_steps::{batches_last, lists_go_on, tips_stay};
 use mg_image::one_reading;
-use mg_image_overlays::owners_keep_stands_apart;
+use mg_image_overlays::{owners_keep_stands_apart, sound_images_stand_one_way};
 use mg_model::histories_go_on;
 use mg_space::FireLinks;
 
@@ -24,6 +24,7 @@ pub fn growths_stay<D: Disk>()
 {
     histories_go_on();
     one_reading();
+    sound_images_stand_one_way();
     tips_stay();
     lists_go_on::<D, FireLinks>();
     batches_last::<D, FireLinks>();

@@ -2,7 +2,8 @@
 //! `mg_core::Core::write_step` says of the machine. Each function does nothing: its contract is the law.
 //!
 //! Owns: the laws from what the core tells of a write to what its keeper owes. A write that is refused before its version
-//! is laid gives the event with the machine's refusal (`refusals_go_on`). Of one that is made: memory follows the entry
+//! is laid gives the event with the machine's refusal (`refusals_go_on`), and so does one for which pages were not read
+//! before it began (`unread_writes_give`). Of one that is made: memory follows the entry
 //! (`made_writes_follow`), what stood at the key is known (`befores_are_told`), the table may be written into
 //! (`seen_may_be_written`), the version codes the row of the event (`stored_rows_are_coded`), its way goes over a
 //! committed version or a dead one (`ways_are_free`), the catalog's tables stay plain (`writes_keep_plain`), and the pages
@@ -22,6 +23,7 @@ ghost use Rattle.mg_engine_changes.specs.Owners.{SeenMayBeWritten};
 ghost use Rattle.mg_engine_changes.specs.Plain.{WritesKeepPlain};
 ghost use Rattle.mg_engine_changes.specs.Refusals.{RefusalsGoOn};
 ghost use Rattle.mg_engine_changes.specs.Tips.{FirstsKeepTips, GrowthKeepsTips, MovesKeepTips, PushesKeepTips, ReplacementsKeepTips, TakingOutKeepsTips};
+ghost use Rattle.mg_engine_changes.specs.Unread.{UnreadWritesGive};
 ghost use Rattle.mg_engine_changes.specs.Ways.{WaysAreFree};
 ghost use Rattle.mg_image.specs.Form.{packed_form};
 
@@ -32,8 +34,9 @@ use mg_engine_steps::{
     writes_go_on,
 };
 use mg_grown_catalogs::catalogs_grow;
+use mg_heap::tables_of_layouts_are_walked;
 use mg_image::one_reading;
-use mg_image_overlays::names_tell_tables;
+use mg_image_overlays::{names_tell_tables, sound_images_stand_one_way};
 use mg_lasting::crashes_hold;
 use mg_model::histories_go_on;
 use mg_seek::records_are_those_of_every_reading;
@@ -53,6 +56,20 @@ pub fn refusals_go_on<D: Disk, P>()
     batches_last::<D, FireLinks>();
     verdicts_are_the_machines();
     notes_follow_the_machine();
+    sound_images_stand_one_way();
+    tables_of_layouts_are_walked();
+    records_are_those_of_every_reading();
+}
+
+/// A write that is refused since the keys of its table were not read.
+pub fn unread_writes_give<D: Disk, P>()
+    ensures { UnreadWritesGive D P D.meaning }
+{
+    entries_go_on::<D, FireLinks>();
+    standings_go_on();
+    crashes_hold();
+    histories_go_on();
+    batches_last::<D, FireLinks>();
 }
 
 /// Memory follows a write.
@@ -135,6 +152,9 @@ pub fn rows_go_on<D: Disk, P>()
     pushes_go_on::<D, FireLinks>();
     replacements_go_on::<D, FireLinks>();
     unasking_lasts::<D, FireLinks>();
+    sound_images_stand_one_way();
+    tables_of_layouts_are_walked();
+    records_are_those_of_every_reading();
 }
 
 /// A row that is the first version of a record: the engine goes on with the event.
@@ -160,6 +180,9 @@ pub fn new_rows_go_on<D: Disk, P>()
     firsts_go_on::<D, FireLinks>();
     replacements_go_on::<D, FireLinks>();
     unasking_lasts::<D, FireLinks>();
+    sound_images_stand_one_way();
+    tables_of_layouts_are_walked();
+    records_are_those_of_every_reading();
 }
 
 /// A row that was pushed where a dead transaction's version was taken out: the engine goes on with the event.
@@ -186,6 +209,8 @@ pub fn over_dead_rows_go_on<D: Disk, P>()
     unasking_lasts::<D, FireLinks>();
     records_are_those_of_every_reading();
     deads_go::<D, FireLinks>();
+    sound_images_stand_one_way();
+    tables_of_layouts_are_walked();
 }
 
 /// The first batch of a version that takes two: a place is taken, or a dead transaction's version is taken out.
@@ -213,6 +238,8 @@ pub fn first_batches_stay<D: Disk, P>()
     unasking_lasts::<D, FireLinks>();
     records_are_those_of_every_reading();
     deads_go::<D, FireLinks>();
+    sound_images_stand_one_way();
+    tables_of_layouts_are_walked();
 }
 
 /// A row that is written gives its event.

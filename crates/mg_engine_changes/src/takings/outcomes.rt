@@ -13,6 +13,7 @@ use mg_engine_steps::{
     changes_are_taken_back, entries_go_on, lists_go_on, others_take_alike,
     pages_show_what_is_taken_back, standings_go_on, unasking_lasts,
 };
+use mg_image::one_reading;
 use mg_image_overlays::sound_images_stand_one_way;
 use mg_lasting::crashes_hold;
 use mg_model::histories_go_on;
@@ -39,6 +40,7 @@ pub fn backs_are_known<D: Disk, P>()
     keys_keep_pages::<D, FireLinks>();
     stops_go_on::<D, FireLinks>();
     others_walk_on();
+    one_reading();
     sound_images_stand_one_way();
     others_take_alike();
     standings_go_on();

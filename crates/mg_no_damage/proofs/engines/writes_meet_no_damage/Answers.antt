@@ -25,6 +25,11 @@ returns g c = writes g.D.Disk.meaning no_places (record {
   behind = c.tips_stay.ensures.behind;
   keep_plain = c.writes_keep_plain.ensures;
   ways_free = c.ways_are_free.ensures;
+  dirs = record {
+    one_way = c.sound_images_stand_one_way.ensures;
+    walked = c.tables_of_layouts_are_walked.ensures;
+    speakers = c.records_are_those_of_every_reading.ensures.speakers;
+  };
   counts_now = g.met.D.Disk.counts_now;
   holds = g.met.D.Disk.holds;
   unask = c.unasking_lasts.ensures;

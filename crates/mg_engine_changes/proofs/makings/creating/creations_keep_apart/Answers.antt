@@ -4,6 +4,7 @@ use Rattle.mg_engine_changes.proofs.makings.creating.creations_keep_apart.Goals 
 pub returns-clause-made : goal.returns-clause-made
 returns-clause-made g c = creations_keep_apart g.D.Disk.meaning (record {
   one = c.one_reading.ensures.packed_rows;
+  one_way = c.sound_images_stand_one_way.ensures;
   begins = c.histories_go_on.ensures.begins;
   behind = c.tips_stay.ensures.behind;
   apart = c.owners_keep_stands_apart.ensures;
@@ -26,6 +27,7 @@ returns-clause-made g c = creations_keep_apart g.D.Disk.meaning (record {
 pub returns-clause-refused : goal.returns-clause-refused
 returns-clause-refused g c = refusals_keep_apart g.D.Disk.meaning (record {
   one = c.one_reading.ensures.packed_rows;
+  one_way = c.sound_images_stand_one_way.ensures;
   begins = c.histories_go_on.ensures.begins;
   behind = c.tips_stay.ensures.behind;
   apart = c.owners_keep_stands_apart.ensures;

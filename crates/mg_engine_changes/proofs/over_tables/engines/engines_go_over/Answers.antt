@@ -8,7 +8,7 @@ returns-clause-stands g c = engines_go_over g.D.Disk.meaning c.histories_go_on.e
     c.keys_are_taken.ensures.keys c.rows_are_given.ensures.apart c.rows_are_given.ensures.left
     c.lists_tell_whole.ensures c.cores_take_all.ensures c.keys_keep_lists.ensures c.cores_take_rows.ensures
     c.tables_follow.ensures c.engines_take_tables.ensures c.tables_go_back.ensures.taken
-    c.changed_tables_are_there.ensures.gone
+    c.changed_tables_are_there.ensures.gone c.sound_images_stand_one_way.ensures
 
 pub returns-clause-walks : goal.returns-clause-walks
 returns-clause-walks g c = others_walk_over g.D.Disk.meaning c.histories_go_on.ensures.begins

@@ -22,6 +22,7 @@ returns g c = record {
   given_up = c.stops_go_on.ensures.given_up;
   failed = c.stops_go_on.ensures.failed;
   walks = c.others_walk_on.ensures.given_up;
+  rows_one = c.one_reading.ensures.packed_rows;
   one_way = c.sound_images_stand_one_way.ensures;
   take = c.others_take_alike.ensures;
   on = c.standings_go_on.ensures;
