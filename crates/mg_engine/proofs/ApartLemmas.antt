@@ -1,15 +1,15 @@
 -- Each session has one active transaction at most, after each call.
-use Rattle.std.proofs.Common.{◌≡◌, inl, inr, ℕ, Bool, true, false, List, Option, None, Some, Result, Ok, Err, refl, sym, ap, ◌∙◌, subst}
+use Rattle.std.proofs.Common.{◌≡◌, inl, inr, ℕ, Bool, true, false, List, Option, Result, Ok, Err, refl, sym, ap, ◌∙◌, subst}
 use Rattle.std.specs.Prelude.{MatchResult}
 use Rattle.mg_base.specs.Disk.{Meaning}
 use Rattle.mg_model.specs.declared.refusal.Refusal.{Refusal}
 use Rattle.mg_model.specs.declared.refusal.Refusal.TheVariants.{DiskWrite, Memory}
-use Rattle.mg_works.specs.Works.{AreApart, IsWork, Working, has_asked, with_point, with_work, without_tables}
+use Rattle.mg_works.specs.Works.{AreApart, has_asked, with_point, without_tables}
 use Rattle.mg_works.specs.WorksLaws.{with_apart, without_apart}
 use Rattle.mg_core.specs.declared.parts.Core.{Core}
 use Rattle.mg_core.specs.Committing.{AsksCommit, StepsCommit}
 use Rattle.mg_core.specs.Ending.{Commits, RefusesCommit}
-use Rattle.mg_core.specs.Events.{EndsWait, IsRefused, Looks, RollsBack, SetsPoint, keeps_base, with_base, with_base_if}
+use Rattle.mg_core.specs.Events.{EndsWait, IsRefused, Looks, RollsBack, SetsPoint, keeps_base, with_base_if}
 
 pub ended_apart : {D : Type 0} (old new : Core D) (t : ℕ) → EndsWait old new t → AreApart old.works
     → AreApart new.works

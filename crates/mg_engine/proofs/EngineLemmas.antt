@@ -4,8 +4,6 @@ use Rattle.std.specs.Prelude.{MatchResult, OnOk}
 use Rattle.mg_base.specs.Disk.{Meaning}
 use Rattle.mg_base.specs.declared.numbers.TxNo.{TxNo}
 use Rattle.mg_expr.specs.declared.expr.Expr.{Expr}
-use Rattle.mg_model.specs.declared.answer.Answer.{Answer}
-use Rattle.mg_model.specs.declared.event.Event.{Event}
 use Rattle.mg_model.specs.declared.event.Event.TheVariants.{Commit, Look, Mark, Rollback, Savepoint}
 use Rattle.mg_model.specs.declared.refusal.Refusal.{Refusal}
 use Rattle.mg_model.specs.Changes.{Cells}

@@ -1,6 +1,9 @@
 -- A row that was asked for by its key is the one that the history tells, and nothing else comes of the call.
-use Rattle.std.proofs.Common.{◌≡◌, inl, inr, ◌<◌, ◌^◌, cond, ℕ, Bool, true, false, List, [], ◌∷◌, Option, None, Some, Result, Ok, Err, refl, sym, ap, ◌∙◌, subst, arith}
+use Rattle.std.proofs.Common.{◌≡◌, inl, inr, ◌<◌, ◌^◌, ℕ, Bool, true, false, List, [], ◌∷◌, Option, None, Some, Result, Ok, Err, refl, sym, ap, ◌∙◌, subst, arith}
 use Rattle.std.specs.Prelude.{IfOk, OnOk, get_or, if◌then◌else◌}
+use Rattle.mg_engine_meaning.specs.DirectoryLaws.{knows_key}
+use Rattle.mg_heap.specs.Stands.{TablesAreWalked}
+use Rattle.mg_seek.specs.Readings.{SpeakersOfReadings}
 use Rattle.mg_base.specs.Disk.{Meaning}
 use Rattle.mg_base.specs.declared.numbers.RecId.{RecId}
 use Rattle.mg_base.specs.declared.numbers.TxNo.{TxNo}
@@ -10,21 +13,26 @@ use Rattle.mg_core.specs.declared.parts.Core.{Core}
 use Rattle.mg_core.specs.declared.scanning.Place.{Place}
 use Rattle.mg_core.specs.Cores.{Continues, RefusesCall}
 use Rattle.mg_core.specs.Reading.{FailsReading}
-use Rattle.mg_core.specs.Writing.{WhyOfKey, row_unread}
-use Rattle.mg_engine.specs.Keyed.{AnswersKey, FailsKey, GivesRow, KeysGoOn, ReadsKey}
+use Rattle.mg_core.specs.Writing.{KnowsKey, WhyOfKnown, row_unread}
+use Rattle.mg_core.specs.Noting.{WhyNotMade}
+use Rattle.mg_engine.proofs.BehindLemmas.{looks_behind}
+use Rattle.mg_engine.proofs.GivenLemmas.{given_no_catalog, given_there, its_active}
+use Rattle.mg_engine.proofs.NotingLemmas.{noted_apart, noting_whole}
+use Rattle.mg_engine.proofs.UnreadLemmas.{unread_looks, unread_refused}
+use Rattle.mg_engine.specs.Keyed.{AnswersKey, AnswersNoted, FailsKey, GivesRow, KeysGoOn, NotesGoOn, ReadsKey}
+use Rattle.mg_engine.specs.Noting.{HasNoted, NotesKeys, OnlyLooks}
 use Rattle.mg_engine.specs.Places.{places as core_places}
-use Rattle.mg_engine_changes.specs.FaultCoreLaws.{not_read, only_read}
+use Rattle.mg_engine_changes.specs.FaultCoreLaws.{only_read}
 use Rattle.mg_engine_meaning.specs.Counts.{HasCounts}
-use Rattle.mg_engine_meaning.specs.FaultLaws.{IsOuter, fault_outer}
 use Rattle.mg_engine_meaning.specs.FrameLaws.{sessions_of, works_same}
-use Rattle.mg_engine_meaning.specs.LawfulLaws.{memory_of, tables_are_seen}
+use Rattle.mg_engine_meaning.specs.LawfulLaws.{memory_of}
 use Rattle.mg_engine_meaning.specs.Meaning.{Places, means}
 use Rattle.mg_engine_meaning.specs.Standings.{ShowsIt, StandsFor, standing_of}
 use Rattle.mg_engine_meaning.specs.StepLaws.{refused_none, shows_of}
 use Rattle.mg_engine_meaning.specs.Steps.{AddsNone, ReadsGoOn}
 use Rattle.mg_engine_steps.specs.AnswersLaws.{NothingAtKeys, RowsAtKeys, SpeakersAreTold, TellsSpeaker}
 use Rattle.mg_engine_steps.specs.KeyAnswers.{has_speaker}
-use Rattle.mg_engine_steps.specs.Known.{IsShown, KnowsPages, facts_shown, seen_is_shown, speaker_of}
+use Rattle.mg_engine_steps.specs.Known.{IsShown, KnowsPages, facts_shown, speaker_of}
 use Rattle.mg_engine_steps.specs.Standing.{Standing}
 use Rattle.mg_generations.specs.Generations.{sees, shown_by}
 use Rattle.mg_generations.specs.Laws.{ChainsShowViews}
@@ -37,25 +45,25 @@ use Rattle.mg_image_overlays.specs.Fronts.{is_dead, living}
 use Rattle.mg_model.specs.declared.opening.Opening.{Opening}
 use Rattle.mg_model.specs.declared.refusal.Refusal.{Refusal}
 use Rattle.mg_model.specs.declared.table.Table.{Table}
-use Rattle.mg_model.specs.Answers.{catalog_of, is_active, told}
-use Rattle.mg_model.specs.Catalog.{catalog_name, shape_said, table_key}
+use Rattle.mg_model.specs.Answers.{is_active, told}
+use Rattle.mg_model.specs.Catalog.{catalog_name}
 use Rattle.mg_model.specs.Changes.{Cells, row_at, same_name}
 use Rattle.mg_model.specs.History.{Entries}
 use Rattle.mg_model.specs.Laws.{OpeningsBegin}
 use Rattle.mg_model.specs.Machine.{state_of, view}
-use Rattle.mg_no_damage.specs.CoreReads.{RowsAreFound, ShowsTable}
-use Rattle.mg_no_damage.specs.CoreSpendingLaws.{refused_by, unread_other}
+use Rattle.mg_no_damage.specs.CoreReads.{KeysAreNoted, RowsAreFound, ShowsTable}
+use Rattle.mg_no_damage.specs.CoreSpendingLaws.{refused_by}
 use Rattle.mg_no_damage.specs.FewPagesLaws.{room_alike, room_kept}
 use Rattle.mg_no_damage.specs.ShownLaws.{shown_table}
+use Rattle.mg_no_damage.specs.Stands.{TellsNone}
 use Rattle.mg_no_damage.specs.Sound.{SoundRecordsAreLawful, SoundTablesStand}
-use Rattle.mg_no_damage.specs.StageLaws.{unread_stands}
 use Rattle.mg_pool.specs.Dirty.{DirtyPages}
 use Rattle.mg_pool.specs.Pool.{shown}
 use Rattle.mg_records.specs.Crashing.{LeavesQuietly}
-use Rattle.mg_records.specs.Keeping.{Reads}
+use Rattle.mg_records.specs.Adding.{IsRefused}
+use Rattle.mg_records.specs.Keeping.{Reads, refusal_in}
 use Rattle.mg_records.specs.Meaning.{Means}
 use Rattle.mg_records.specs.Needed.{with_room}
-use Rattle.mg_records.specs.Sessions.{SessionsStay}
 use Rattle.mg_records.specs.declared.write.Write.TheVariants as writes
 use Rattle.mg_row_writes.specs.Finding.{IsRowAt, IsSeenIn}
 use Rattle.mg_row_writes.specs.declared.finding.RowAt.{RowAt}
@@ -78,6 +86,10 @@ pub record KeyParts {D : Type 0} (m : Meaning D) : Type 0 where
   pub found : RowsAreFound m
   pub records : SoundRecordsAreLawful
   pub stand : SoundTablesStand
+  pub walked : TablesAreWalked
+  pub speaks : SpeakersOfReadings
+  pub notes : NotesGoOn D m
+  pub noted : KeysAreNoted m
 
 -- the rows of a table that is not the catalog are told as they are stored
 told_same : (table : Table) (row : Option Row) → same_name table.name catalog_name ≡ false → told_if table row ≡ row
@@ -113,6 +125,23 @@ each_living P state (e ∷ es) each = at (is_dead (state (writer e)))
     at true = each.1
     at false = each
 
+-- pages were not read for the call
+unread_gives : {D : Type 0} (m : Meaning D) (places : Places Place) (old new : Core D) (t : TxNo) (table : Table)
+    (key : Value) (refusal : Refusal) → OnlyLooks m places old new (Some refusal)
+    → ((o : Opening) (h : Entries) → IsRefused o h t.0 refusal) → GivesRow m places old new t table key (Err refusal)
+unread_gives m places old new t table key refusal looks refused = record {
+  finds = tt;
+  keyed = tt;
+  answers = λ o h stands. refused o h;
+  reads = looks.reads;
+  crash = looks.crash;
+  sessions = looks.sessions;
+  told = looks.told;
+  undamaged = looks.undamaged;
+  room = looks.room;
+  unwritten = looks.unwritten;
+}
+
 module _ {D : Type 0} (m : Meaning D) (parts : KeyParts m) (places : Places Place) (old : Core D) (t : TxNo)
     (table : Table) (key : Value) (given : given_to old.works t.0 table.name ≡ Some table) where
   -- ---- one history
@@ -122,24 +151,17 @@ module _ {D : Type 0} (m : Meaning D) (parts : KeyParts m) (places : Places Plac
     shows = shows_of m old o h stands continues.0
 
     active : state_of o h t.0 ≡ Active
-    active = sym ((memory_of m old o h stands).state t.0) ∙ continues.1
+    active = its_active m places old t table given o h stands continues
 
-    -- a table that was given is not the catalog: the history tells it under its name
     not_catalog : same_name table.name catalog_name ≡ false
-    not_catalog = at (same_name table.name catalog_name) refl
-        (tables_are_seen m places old o h t.0 table.name table stands active given).1
-      where
-        at : (b : Bool) → same_name table.name catalog_name ≡ b
-            → cond b None (shape_said (catalog_of (told o h) t.0) table.name
-            (catalog_of (told o h) t.0 (table_key table.name))) ≡ Some table.shape
-            → same_name table.name catalog_name ≡ false
-        at true is some = absurd cc
-        at false is some = is
+    not_catalog = given_no_catalog m places old t table given o h stands continues
 
     table_there : IsShown shows.stands.shows.layout table
-    table_there = seen_is_shown shows.stands.shows.layout table
-        ((shows.stands.shows.tables t.0 continues.1).seen table.name table
-        (stands.given t.0 table.name table given))
+    table_there = given_there m places old t table given o h stands continues shows
+
+    -- the candidates that directories have for the key are enough
+    known : KnowsKey old table key (shown old.store.dirty shows.image)
+    known = knows_key m old o h stands.numbers stands.tables shows parts.walked table table_there parts.speaks key
 
     abbrev knows : KnowsPages old.store.geometry.size o h (standing_of old stands.numbers stands.tables)
         (shown old.store.dirty shows.image)
@@ -219,7 +241,8 @@ module _ {D : Type 0} (m : Meaning D) (parts : KeyParts m) (places : Places Plac
       (record {
         finds = λ o h stands active_. is.is ∙ row_is o h stands is.continues is.found (is.reads.told
             (shows o h stands is.continues).image
-            (record { told = stands.tells; held = (shows o h stands is.continues).held }));
+            (record { told = stands.tells; held = (shows o h stands is.continues).held })
+            (known o h stands is.continues));
         keyed = λ o h stands active_ k row there. own_key o h stands is.continues k row there;
         answers = λ o h stands. sym ((memory_of m old o h stands).state t.0) ∙ is.continues.1;
         reads = both.0;
@@ -266,53 +289,100 @@ module _ {D : Type 0} (m : Meaning D) (parts : KeyParts m) (places : Places Plac
 
   fails : HasCounts old → (new : Core D) (refusal : Refusal) → FailsKey m old new t table key refusal
       → GivesRow m places old new t table key (Err refusal)
-  fails counts new refusal is = record {
-    finds = tt;
-    keyed = tt;
-    answers = λ o h stands. outer.refused o h t.0;
-    reads = subst (λ (c : Core D). Reads (means m places) old c (Some refusal) None) (sym is.fails.same) both.0;
-    crash = subst (λ (c : Core D). LeavesQuietly (means m places) old c) (sym is.fails.same) both.1;
-    sessions = subst (λ (c : Core D). SessionsStay (means m places) old c None None) (sym is.fails.same)
-        (sessions_of m places old (record old {
-          store = new.store;
-          damage = new.damage;
-          shortages = new.shortages;
-        }) t.0 (works_same old.works t.0));
-    told = not_read m old new (WhyOfKey m old t table key) refusal is.fails;
-    undamaged = λ o h stands told_. unread_stands m old new (WhyOfKey m old t table key) refusal is.fails
-        (λ page field a b same. parts.found old new (shows o h stands is.continues).image table
-        (tables o h stands is.continues told_) t key (writes.Erase key) page field a b
-        (row_unread (subst (FailsReading m old new (WhyOfKey m old t table key)) same is.fails)));
-    room = λ o h stands told_. room_alike m old new (Some refusal)
-        (λ i tells. record {
-          told = sym is.fails.keeps.disk.tells ∙ tells.told;
-          held = sym is.fails.keeps.disk.held ∙ tells.held;
-        }) is.fails.keeps.geometry
-        (λ i n. ap (λ (d : DirtyPages). shown d i n) is.fails.keeps.dirty)
-        (unread_other m old new (WhyOfKey m old t table key) refusal is.fails);
-    unwritten = is.fails.keeps.disk.asked;
-  }
+  fails counts new refusal is = unread_gives m places old new t table key refusal
+      (unread_looks m parts.reads places old new t (WhyOfKnown m old t table key) refusal is.continues counts is.fails whole)
+      (unread_refused m parts.reads places old new t (WhyOfKnown m old t table key) refusal is.continues counts is.fails
+      whole)
     where
-      outer : IsOuter m places old
-          (record old { store = new.store; damage = new.damage; shortages = new.shortages }) refusal
-      outer = fault_outer m places old new.store new.damage new.shortages is.continues.0 is.fails.keeps counts.damage
-          counts.shortages is.fails.fault refusal is.fails.is is.fails.own is.fails.told is.fails.counts
+      whole : (o : Opening) (h : Entries) → StandsFor m old o h → m.tells old.store.disk ≡ true → TellsNone refusal
+      whole o h stands told_ page field a b same = parts.found old new (shows o h stands is.continues).image table
+          (tables o h stands is.continues told_) t key (writes.Erase key) (known o h stands is.continues) page field a b
+          (row_unread (subst (FailsReading m old new (WhyOfKnown m old t table key)) same is.fails))
 
-      both : Reads (means m places) old
-          (record old { store = new.store; damage = new.damage; shortages = new.shortages }) (Some refusal) None
-          × LeavesQuietly (means m places) old
-          (record old { store = new.store; damage = new.damage; shortages = new.shortages })
-      both = parts.reads places old new.store new.damage new.shortages (Some refusal) None is.fails.keeps outer.damage
-          outer.shortages outer.may
+-- ---- the row is looked for
 
-pub keys_go_on : {D : Type 0} (m : Meaning D) → KeyParts m → KeysGoOn D m
-keys_go_on m parts places old new t table key (Ok row) counts given is = read m parts places old t table key given new
+keys_answered : {D : Type 0} (m : Meaning D) → KeyParts m → (places : Places Place) (old new : Core D) (t : TxNo)
+    (table : Table) (key : Value) (result : Result (Option Cells) Refusal) → HasCounts old
+    → given_to old.works t.0 table.name ≡ Some table → AnswersKey m old new t table key result
+    → GivesRow m places old new t table key result
+keys_answered m parts places old new t table key (Ok row) counts given is = read m parts places old t table key given new
     row is
-keys_go_on {D} m parts places old new t table key (Err refusal) counts given (inl (refuses, same)) =
+keys_answered {D} m parts places old new t table key (Err refusal) counts given (inl (refuses, same)) =
     subst (λ (c : Core D). GivesRow m places old c t table key (Err refusal)) (sym same)
     (refused m parts places old t table key given refusal refuses)
-keys_go_on m parts places old new t table key (Err refusal) counts given (inr is) =
+keys_answered m parts places old new t table key (Err refusal) counts given (inr is) =
     fails m parts places old t table key given counts new refusal is
+
+-- ---- once the keys of its table are noted
+
+-- behind a call that only looked
+row_behind : {D : Type 0} (m : Meaning D) (places : Places Place) (old mid new : Core D) (t : TxNo) (table : Table)
+    (key : Value) (result : Result (Option Cells) Refusal) → OnlyLooks m places old mid None
+    → GivesRow m places mid new t table key result → GivesRow m places old new t table key result
+row_behind m places old mid new t table key result first second = record {
+  finds = finds result second.finds;
+  keyed = keyed result second.keyed;
+  answers = λ o h stands. second.answers o h (first.reads.stays o h stands);
+  reads = looks.reads;
+  crash = looks.crash;
+  sessions = looks.sessions;
+  told = looks.told;
+  undamaged = looks.undamaged;
+  room = looks.room;
+  unwritten = looks.unwritten;
+}
+  where
+    looks : OnlyLooks m places old new (refusal_in result)
+    looks = looks_behind m places old mid new first (refusal_in result) (record {
+      reads = second.reads;
+      crash = second.crash;
+      sessions = second.sessions;
+      told = second.told;
+      undamaged = second.undamaged;
+      room = second.room;
+      unwritten = second.unwritten;
+    })
+
+    finds : (result : Result (Option Cells) Refusal) → IfOk result (IsSeenAt (means m places) mid t.0 table.name key)
+        → IfOk result (IsSeenAt (means m places) old t.0 table.name key)
+    finds (Ok row) seen = λ o h stands active. seen o h (first.reads.stays o h stands) active
+    finds (Err refusal) seen = tt
+
+    keyed : (result : Result (Option Cells) Refusal) → OnOk result (HaveTheirKeys (means m places) mid t.0 table)
+        → OnOk result (HaveTheirKeys (means m places) old t.0 table)
+    keyed (Ok row) have = λ o h stands active. have o h (first.reads.stays o h stands) active
+    keyed (Err refusal) have = tt
+
+noted_answered : {D : Type 0} (m : Meaning D) → KeyParts m → (places : Places Place) (old new : Core D) (t : TxNo)
+    (table : Table) (key : Value) (result : Result (Option Cells) Refusal) → HasCounts old
+    → given_to old.works t.0 table.name ≡ Some table
+    → HasNoted m old t.0 table (λ noted. AnswersKey m noted new t table key result)
+    → GivesRow m places old new t table key result
+noted_answered {D} m parts places old new t table key result counts given has = at has.notes
+  where
+    at : NotesKeys m old has.noted t.0 table → GivesRow m places old new t table key result
+    at (inl same) = subst (λ (c : Core D). GivesRow m places c new t table key result) same
+        (keys_answered m parts places has.noted new t table key result
+        (subst (HasCounts {D = D}) (sym same) counts)
+        (ap (λ (c : Core D). given_to c.works t.0 table.name) same ∙ given) has.goes)
+    at (inr (continues, makes)) = row_behind m places old has.noted new t table key result
+        (parts.notes places old has.noted t table given continues makes)
+        (keys_answered m parts places has.noted new t table key result
+        (subst (HasCounts {D = D}) (sym makes.same) (record { damage = counts.damage; shortages = counts.shortages }))
+        (ap (λ (c : Core D). given_to c.works t.0 table.name) makes.same ∙ given) has.goes)
+
+pub keys_go_on : {D : Type 0} (m : Meaning D) → KeyParts m → KeysGoOn D m
+keys_go_on m parts places old new t table key (Ok row) counts given has =
+    noted_answered m parts places old new t table key (Ok row) counts given has
+keys_go_on m parts places old new t table key (Err refusal) counts given (inr has) =
+    noted_answered m parts places old new t table key (Err refusal) counts given has
+keys_go_on m parts places old new t table key (Err refusal) counts given (inl is) =
+    unread_gives m places old new t table key refusal
+    (unread_looks m parts.reads places old new t (WhyNotMade m old table) refusal is.continues counts is.fails whole)
+    (unread_refused m parts.reads places old new t (WhyNotMade m old table) refusal is.continues counts is.fails whole)
+  where
+    whole : (o : Opening) (h : Entries) → StandsFor m old o h → m.tells old.store.disk ≡ true → TellsNone refusal
+    whole = noting_whole m parts.noted parts.records parts.stand places old new t table refusal given is.continues is.fails
 
 -- ---- the engine
 
@@ -320,22 +390,32 @@ keys_go_on m parts places old new t table key (Err refusal) counts given (inr is
 pub gives_as : {D : Type 0} (m : Meaning D) (inside old new : Core D) → inside ≡ old → inside.damage < 2 ^ 64
     → inside.shortages < 2 ^ 64 → KeysGoOn D m → (t : TxNo) (table : Table) (key : Value)
     (result : Result (Option Cells) Refusal) → given_to old.works t.0 table.name ≡ Some table
-    → AnswersKey m inside new t table key result → GivesRow m core_places old new t table key result
+    → AnswersNoted m inside new t table key result → GivesRow m core_places old new t table key result
 gives_as {D} m inside old new same damage shortages law t table key result given answers =
     subst (λ (c : Core D). GivesRow m core_places c new t table key result) same
     (law core_places inside new t table key result (record { damage = damage; shortages = shortages })
     (subst (λ (c : Core D). given_to c.works t.0 table.name ≡ Some table) (sym same) given) answers)
 
 -- each session has one active transaction at most
-pub keys_apart : {D : Type 0} (m : Meaning D) (old new : Core D) (t : TxNo) (table : Table) (key : Value)
+answered_apart : {D : Type 0} (m : Meaning D) (old new : Core D) (t : TxNo) (table : Table) (key : Value)
     (result : Result (Option Cells) Refusal) → AnswersKey m old new t table key result → AreApart old.works
     → AreApart new.works
-keys_apart {D} m old new t table key (Ok row) is apart =
+answered_apart {D} m old new t table key (Ok row) is apart =
     subst AreApart (sym (ap (λ (c : Core D). c.works) is.reads.reads.same)) apart
-keys_apart {D} m old new t table key (Err refusal) (inl (refuses, same)) apart =
+answered_apart {D} m old new t table key (Err refusal) (inl (refuses, same)) apart =
     subst AreApart (sym (ap (λ (c : Core D). c.works) same)) apart
-keys_apart {D} m old new t table key (Err refusal) (inr is) apart =
+answered_apart {D} m old new t table key (Err refusal) (inr is) apart =
     subst AreApart (sym (ap (λ (c : Core D). c.works) is.fails.same)) apart
+
+pub keys_apart : {D : Type 0} (m : Meaning D) (old new : Core D) (t : TxNo) (table : Table) (key : Value)
+    (result : Result (Option Cells) Refusal) → AnswersNoted m old new t table key result → AreApart old.works
+    → AreApart new.works
+keys_apart m old new t table key (Ok row) has apart = answered_apart m has.noted new t table key (Ok row) has.goes
+    (noted_apart m old has.noted t.0 table has.notes apart)
+keys_apart {D} m old new t table key (Err refusal) (inl is) apart =
+    subst AreApart (sym (ap (λ (c : Core D). c.works) is.fails.same)) apart
+keys_apart m old new t table key (Err refusal) (inr has) apart = answered_apart m has.noted new t table key (Err refusal)
+    has.goes (noted_apart m old has.noted t.0 table has.notes apart)
 
 -- ---- with the room that openings promise
 

@@ -2,11 +2,15 @@ mod ApartLemmas
 mod AskedLemmas
 mod EngineLemmas
 mod BeginLemmas
+mod BehindLemmas
+mod ChangingLemmas
+mod GivenLemmas
 mod MakingLemmas
+mod NotingLemmas
 mod ReadLemmas
+mod UnreadLemmas
 mod WriteLemmas
 mod BackLemmas
 mod ToldLemmas
 mod RoomLemmas
-mod KeyReadLemmas
 mod KeyedLemmas

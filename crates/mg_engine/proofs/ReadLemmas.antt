@@ -1,5 +1,5 @@
 -- Tables and walks over the core of an engine, which is its value.
-use Rattle.std.proofs.Common.{◌≡◌, ◌⊎◌, inl, inr, ◌<◌, ◌^◌, ◌==◌, cond, ℕ, Bool, true, false, List, [], ◌∷◌, Option, None, Some, Result, Ok, Err, refl, sym, ap, ◌∙◌, subst}
+use Rattle.std.proofs.Common.{◌≡◌, inl, inr, ◌<◌, ◌^◌, ◌==◌, cond, ℕ, Bool, true, false, List, [], ◌∷◌, Option, Some, Result, Ok, Err, refl, sym, ap, subst}
 use Rattle.mg_base.specs.Disk.{Meaning}
 use Rattle.mg_base.specs.declared.numbers.TxNo.{TxNo}
 use Rattle.mg_model.specs.declared.refusal.Refusal.{Refusal}
@@ -7,13 +7,13 @@ use Rattle.mg_model.specs.declared.table.Table.{Table}
 use Rattle.mg_model.specs.Changes.{KeyedRows, same_name}
 use Rattle.mg_records.specs.Keeping.{MeetsNoDamage}
 use Rattle.mg_records.specs.declared.found.Found.{Found}
-use Rattle.mg_works.specs.Works.{AllMayBeGiven, AreApart, IsWork, MayBeGiven, Working, given_by, given_in, given_to, with_table, with_work, work_of}
+use Rattle.mg_works.specs.Works.{AllMayBeGiven, AreApart, MayBeGiven, Working, given_by, given_in, given_to, with_table, work_of}
 use Rattle.mg_works.specs.WorksLaws.{with_apart}
 use Rattle.mg_core.specs.declared.parts.Core.{Core}
 use Rattle.mg_core.specs.declared.scanning.Place.{Place}
 use Rattle.mg_core.specs.Scanning.{Scans}
 use Rattle.mg_core.specs.Tables.{AnswersTable, RefusesName, by_call, by_fault, by_lack, by_memory}
-use Rattle.mg_engine_meaning.specs.Meaning.{Places, means}
+use Rattle.mg_engine_meaning.specs.Meaning.{means}
 use Rattle.mg_engine_meaning.specs.Reads.{AreRanked, GivesTable, IsInRank, TablesGoOn, VisitsGoOn, VisitsRecord}
 use Rattle.mg_no_damage.specs.Walks.{IsShortPlace, VisitsMeetNone}
 use Rattle.mg_engine.specs.Engines.{IsEngine}

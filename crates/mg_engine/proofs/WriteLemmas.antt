@@ -1,20 +1,20 @@
 -- A write of a row: its values have their ranges, and what the laws say of it.
-use Rattle.std.proofs.Common.{◌≡◌, ◌≤◌, ◌<◌, ◌==◌, ◌+◌, ◌^◌, ◌-◌, All, ℕ, Bool, true, false, suc, zero, List, [], ◌∷◌, None, Some, Result, Ok, Err, sym, ap, ◌∙◌, subst, arith}
-use Rattle.std.specs.Prelude.{MatchResult, if◌then◌else◌, slice_get}
+use Rattle.std.proofs.Common.{◌≡◌, ◌≤◌, ◌<◌, ◌==◌, ◌+◌, ◌^◌, All, ℕ, Bool, true, false, suc, zero, List, [], ◌∷◌, None, Some, Result, sym, ap, ◌∙◌, subst, arith}
+use Rattle.std.specs.Prelude.{if◌then◌else◌, slice_get}
 use Rattle.mg_base.specs.Disk.{Meaning}
 use Rattle.mg_base.specs.declared.numbers.TxNo.{TxNo}
 use Rattle.mg_core.specs.declared.parts.Core.{Core}
+use Rattle.mg_core.specs.declared.scanning.Place.{Place}
 use Rattle.mg_model.specs.declared.refusal.Refusal.{Refusal}
 use Rattle.mg_model.specs.declared.table.Table.{Table}
 use Rattle.mg_records.specs.Adding.{fine_or}
-use Rattle.mg_records.specs.Keeping.{MeetsNoDamage, refusal_in}
+use Rattle.mg_records.specs.Keeping.{refusal_in}
 use Rattle.mg_records.specs.Writing.{FitsShape, IsOfColumn, event_of}
 use Rattle.mg_records.specs.declared.write.Write.{Write}
 use Rattle.mg_records.specs.declared.write.Write.TheVariants as writes
 use Rattle.mg_row_writes.specs.Storing.{alone_at, row_stored}
 use Rattle.mg_rowcode.specs.Storable.{AreStorable, IsStorable}
 use Rattle.mg_seek.specs.Rows.{HasShortTexts, IsShortText}
-use Rattle.mg_taking_back.specs.Noting.{FailsNoted, WritesNoted}
 use Rattle.mg_value.specs.Rows.{FitsKind, RowFits, width_of}
 use Rattle.mg_value.specs.declared.shape.Column.{Column}
 use Rattle.mg_value.specs.declared.shape.Kind.{Kind}
@@ -22,14 +22,12 @@ use Rattle.mg_value.specs.declared.shape.Kind.TheVariants as kinds
 use Rattle.mg_value.specs.declared.shape.TheConstants.{GREATEST_WIDTH}
 use Rattle.mg_value.specs.declared.value.Value.{Value}
 use Rattle.mg_value.specs.declared.value.Value.TheVariants.{Int, Null, Text}
-use Rattle.mg_works.specs.Works.{AreApart, MayBeGiven, given_to}
+use Rattle.mg_works.specs.Works.{MayBeGiven, given_to}
+use Rattle.mg_engine.specs.Changing.{ChangesGoOn, GivesWrite, WritesFirst}
 use Rattle.mg_engine.specs.Engines.{IsEngine}
 use Rattle.mg_engine_meaning.specs.Frames.{GivesEvent}
-use Rattle.mg_engine_meaning.specs.Meaning.{Places, means}
-use Rattle.mg_no_damage.specs.Calls.{WritesMeetNone}
-use Rattle.mg_engine.proofs.ToldLemmas.{undamaged_as}
-use Rattle.mg_engine_changes.specs.Steps.{NotedFailsApart, NotedFailsGive, NotedWritesApart, NotedWritesGive}
-use Rattle.mg_engine_changes.specs.Notes.{AreCounts}
+use Rattle.mg_engine_meaning.specs.Counts.{HasCounts}
+use Rattle.mg_engine_meaning.specs.Meaning.{Places}
 
 -- ---- values
 
@@ -97,39 +95,23 @@ erase_storable table write key seen is seen_is storable = subst (λ (w : Write).
 
 -- ---- the laws
 
-module _ {D P : Type 0} (m : Meaning D) (places : Places P) (inside old new : Core D) (same : inside ≡ old)
+module _ {D : Type 0} (m : Meaning D) (places : Places Place) (inside old new : Core D) (same : inside ≡ old)
     (is : IsEngine m inside) (damage : inside.damage < 2 ^ 64) (shortages : inside.shortages < 2 ^ 64) (t : TxNo)
     (table : Table) (write : Write) (given : given_to old.works t.0 table.name ≡ Some table)
     (fits : FitsShape table.shape write) (storable : AreStorable (row_stored table write)) where
-  counted : AreCounts inside
-  counted = record { damage = omega (arith, damage); shortages = omega (arith, shortages) }
+  counted : HasCounts inside
+  counted = record { damage = damage; shortages = shortages }
 
   given_inside : given_to inside.works t.0 table.name ≡ Some table
   given_inside = ap (λ (c : Core D). given_to c.works t.0 table.name) same ∙ given
 
-  pub writes_as : NotedWritesGive D P m → NotedFailsGive D P m → (result : Result (Unit {0}) Refusal)
-      → MatchResult result (λ _. WritesNoted m inside new t table write) (FailsNoted m inside new t table write)
+  pub changes_as : MayBeGiven table → ChangesGoOn D m → (result : Result (Unit {0}) Refusal)
+      → WritesFirst m inside new t table write result → GivesWrite m places inside new t table write result
+  changes_as may law result changes = law places inside new t table write result is.lawful counted is.apart may
+      given_inside fits storable changes
+
+  pub gives_as : (result : Result (Unit {0}) Refusal) → GivesWrite m places inside new t table write result
       → GivesEvent m places old new (event_of t table.name write) (fine_or result) (refusal_in result) None
       (Some t.0) None None
-  writes_as writes fails (Ok x) written = subst (λ (c : Core D). GivesEvent m places c new
-      (event_of t table.name write) (fine_or (Ok x)) (refusal_in {T = Unit {0}} (Ok x)) None (Some t.0) None None) same
-      (writes places inside new t table write is.lawful given_inside fits storable written)
-  writes_as writes fails (Err refusal) failed = subst (λ (c : Core D). GivesEvent m places c new
-      (event_of t table.name write) (fine_or (Err refusal)) (refusal_in {T = Unit {0}} (Err refusal)) None (Some t.0)
-      None None) same
-      (fails places inside new t table write refusal is.lawful counted given_inside fits storable failed)
-
-  pub writes_apart : MayBeGiven table → NotedWritesApart D m → NotedFailsApart D P m
-      → (result : Result (Unit {0}) Refusal)
-      → MatchResult result (λ _. WritesNoted m inside new t table write) (FailsNoted m inside new t table write)
-      → AreApart new.works
-  writes_apart may writes fails (Ok x) written =
-      writes inside new t table write is.lawful given_inside may is.apart written
-  writes_apart may writes fails (Err refusal) failed = fails places inside new t table write refusal is.lawful counted
-      given_inside fits storable may is.apart failed
-
-  pub writes_undamaged : WritesMeetNone D m → (result : Result (Unit {0}) Refusal)
-      → MatchResult result (λ _. WritesNoted m inside new t table write) (FailsNoted m inside new t table write)
-      → MeetsNoDamage (means m places) old new
-  writes_undamaged law result written = undamaged_as m places inside old new same
-      (law inside new t table write result is.lawful given_inside fits storable written)
+  gives_as result it = subst (λ (c : Core D). GivesEvent m places c new (event_of t table.name write) (fine_or result)
+      (refusal_in result) None (Some t.0) None None) same it.gives

@@ -1,14 +1,13 @@
 -- What is true of every engine as a keeper of records.
-use Rattle.std.proofs.Common.{◌≡◌, ◌∙◌, ℕ, Option, Some, ap, sym}
+use Rattle.std.proofs.Common.{◌≡◌, ◌∙◌, Some, ap, sym}
 use Rattle.mg_base.specs.Disk.{Meaning}
 use Rattle.mg_engine_meaning.specs.LawfulLaws.{walks_are_whole}
-use Rattle.mg_engine_meaning.specs.Meaning.{Places, WorksFor, means}
+use Rattle.mg_engine_meaning.specs.Meaning.{Places, means}
 use Rattle.mg_engine_steps.specs.WalkAnswers.{walks_begin}
 use Rattle.mg_generations.specs.KeptShowLaws.{chain_shows_view}
 use Rattle.mg_records.specs.Reading.{WalksAreWhole}
 use Rattle.mg_records.specs.Sessions.{SessionsAreOne}
 use Rattle.mg_seek.specs.ViewLaws.{walks_show_views}
-use Rattle.mg_core.specs.declared.parts.Core.{Core}
 
 -- the walks that begin come to all rows of the view
 pub walks_come_to_all : {D P : Type 0} (m : Meaning D) (places : Places P) → WalksAreWhole (means m places)

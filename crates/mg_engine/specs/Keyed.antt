@@ -5,8 +5,10 @@ use Rattle.mg_base.specs.declared.numbers.TxNo.{TxNo}
 use Rattle.mg_core.specs.declared.parts.Core.{Core}
 use Rattle.mg_core.specs.declared.scanning.Place.{Place}
 use Rattle.mg_core.specs.Cores.{Continues, RefusesCall}
+use Rattle.mg_core.specs.Noting.{MakesDirectory}
 use Rattle.mg_core.specs.Reading.{FailsReading}
-use Rattle.mg_core.specs.Writing.{ReadsRow, WhyOfKey}
+use Rattle.mg_core.specs.Writing.{ReadsKnown, WhyOfKnown}
+use Rattle.mg_engine.specs.Noting.{FailsNoting, HasNoted, OnlyLooks}
 use Rattle.mg_engine_changes.specs.Asked.{AsksNoWrite}
 use Rattle.mg_engine_changes.specs.Told.{TellsFaults}
 use Rattle.mg_engine_meaning.specs.Counts.{HasCounts}
@@ -32,14 +34,14 @@ pub record ReadsKey {D : Type 0} (m : Meaning D) (old new : Core D) (t : TxNo) (
     (row : Option Cells) : Type 0 where
   pub continues : Continues old t.0
   pub found : RowAt
-  pub reads : ReadsRow m old new t table key found
+  pub reads : ReadsKnown m old new t table key found
   pub is : row ≡ found.row
 
 -- It was not read: the fault is counted.
 pub record FailsKey {D : Type 0} (m : Meaning D) (old new : Core D) (t : TxNo) (table : Table) (key : Value)
     (refusal : Refusal) : Type 0 where
   pub continues : Continues old t.0
-  pub fails : FailsReading m old new (WhyOfKey m old t table key) refusal
+  pub fails : FailsReading m old new (WhyOfKnown m old t table key) refusal
 
 -- the row with a key is read for a transaction, or the call is refused
 abbrev pub AnswersKey : {D : Type 0} → Meaning D → Core D → Core D → TxNo → Table → Value
@@ -47,6 +49,14 @@ abbrev pub AnswersKey : {D : Type 0} → Meaning D → Core D → Core D → TxN
 AnswersKey m old new t table key (Ok row) = ReadsKey m old new t table key row
 AnswersKey m old new t table key (Err refusal) = (RefusesCall old t.0 refusal × (new ≡ old))
     ⊎ FailsKey m old new t table key refusal
+
+-- The keys of the table were noted first, or its rows were not read for that.
+abbrev pub AnswersNoted : {D : Type 0} → Meaning D → Core D → Core D → TxNo → Table → Value
+    → Result (Option Cells) Refusal → Type 0
+AnswersNoted m old new t table key (Ok row) =
+    HasNoted m old t.0 table (λ noted. AnswersKey m noted new t table key (Ok row))
+AnswersNoted m old new t table key (Err refusal) = FailsNoting m old new t.0 table refusal
+    ⊎ HasNoted m old t.0 table (λ noted. AnswersKey m noted new t table key (Err refusal))
 
 -- ---- what it is to a keeper of records
 
@@ -65,8 +75,14 @@ pub record GivesRow {D : Type 0} (m : Meaning D) (places : Places Place) (old ne
   pub room : RoomStands m old new (refusal_in result) 0
   pub unwritten : AsksNoWrite m old new
 
+-- the directory of a table that was given to an active transaction is made: nothing has happened but a reading
+abbrev pub NotesGoOn : (D : Type 0) → Meaning D → Type 0
+NotesGoOn D m = (places : Places Place) (old new : Core D) (t : TxNo) (table : Table)
+    → given_to old.works t.0 table.name ≡ Some table → Continues old t.0 → MakesDirectory m old new table
+    → OnlyLooks m places old new None
+
 -- so does each call that asks for a row of a table that was given
 abbrev pub KeysGoOn : (D : Type 0) → Meaning D → Type 0
 KeysGoOn D m = (places : Places Place) (old new : Core D) (t : TxNo) (table : Table) (key : Value)
     (result : Result (Option Cells) Refusal) → HasCounts old → given_to old.works t.0 table.name ≡ Some table
-    → AnswersKey m old new t table key result → GivesRow m places old new t table key result
+    → AnswersNoted m old new t table key result → GivesRow m places old new t table key result

@@ -1,4 +1,6 @@
+pub mod Changing
 pub mod Engines
 pub mod Keyed
 pub mod KeeperLaws
+pub mod Noting
 pub mod Places

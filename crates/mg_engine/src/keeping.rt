@@ -6,6 +6,7 @@ ghost use Rattle.mg_no_damage.specs.AlikeRoom.{crashes_with, lasts_with, one_wit
 ghost use Rattle.mg_engine.specs.Places.{places};
 ghost use Rattle.mg_engine.specs.KeeperLaws.{sessions_are_one, walks_come_to_all};
 
+use crate::changing::{changes_go_on, write_row};
 use crate::engine::Engine;
 use crate::making::{note_columns, note_name};
 use crate::sizes::{copy_place, counts_fit, in_rank, is_short, tell_counts};
@@ -16,8 +17,8 @@ use mg_core::Place;
 use mg_engine_changes::{
     begins_tell_faults, changes_tell_faults, commits_tell_faults, commits_want_nothing,
     creations_keep_apart, events_take_no_page, events_tell_faults, events_write_none,
-    noted_writes_give, noted_writes_keep_apart, page_writes_ask_one, page_writes_tell_faults,
-    readings_tell_faults, readings_write_none, tables_are_made,
+    page_writes_ask_one, page_writes_tell_faults, readings_tell_faults, readings_write_none,
+    tables_are_made,
 };
 use mg_engine_meaning::{
     begins_give, commits_go, looks_go_on, points_go_on, rollbacks_go, steps_go_on, tables_go_on,
@@ -28,12 +29,10 @@ use mg_model::{Mode, Refusal, Rows, Table};
 use mg_no_damage::{
     begins_meet_no_damage, begins_take_few, commits_meet_no_damage, commits_take_none,
     creations_meet_no_damage, creations_take_few, events_meet_no_damage, events_take_none,
-    readings_take_none, tables_meet_no_damage, visits_meet_no_damage, writes_meet_no_damage,
-    writes_take_few,
+    readings_take_none, tables_meet_no_damage, visits_meet_no_damage,
 };
 use mg_records::{Found, Records, Write};
 use mg_table_making::create_table;
-use mg_taking_back::write_noted;
 use mg_tending::PageWrites;
 use mg_value::{Name, Shape};
 use std::alloc::Global;
@@ -131,22 +130,18 @@ impl<D: Disk> Records for Engine<D> {
         self.core.found(t)
     }
 
-    /// Writes a row. A refusal changes nothing but whom the transaction waits on.
+    /// Writes a row, once the keys of its table are noted. A refusal changes nothing but whom the transaction waits on.
     ///
     /// # Errors
     ///
-    /// As `write_noted` of mg_taking_back, and as `Core::write_step`: `Offline`, `NotActive`; `ReadOnly` by the mode; the
+    /// As `note_keys` for what the noting reads; as `write_noted` of mg_taking_back, and as `Core::write_step`: `Offline`, `NotActive`; `ReadOnly` by the mode; the
     /// obstacle of the table's row of the catalog; `DuplicateKey` or `NoRow` by the view; the obstacle of the record; or
     /// what the pages are refused for, or `Memory`.
     fn write_step(&mut self, t: TxNo, table: &Table, write: &Write) -> Result<(), Refusal> {
-        changes_tell_faults::<D>();
-        writes_meet_no_damage::<D>();
-        writes_take_few::<D>();
-        noted_writes_give::<D, Place>();
-        noted_writes_keep_apart::<D, Place>();
+        changes_go_on::<D>();
         counts_fit(self.core.damage, self.core.shortages);
         note_write(table, write);
-        write_noted(&mut self.core, t, table, write)
+        write_row(&mut self.core, t, table, write)
     }
 
     /// Makes a table: the rows of the catalog that say it come one after another, that of the table first.

@@ -11,10 +11,12 @@
 //! Above: the statements' steps.
 #![tactic(auto)]
 
+mod changing;
 mod engine;
 mod keeping;
 mod keyed;
 mod making;
+mod noting;
 mod opening;
 mod page_writes;
 mod sizes;

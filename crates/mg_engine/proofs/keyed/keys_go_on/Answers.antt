@@ -12,4 +12,8 @@ returns g c = keys_go_on g.D.Disk.meaning (record {
   found = c.reads_meet_no_damage.ensures.rows;
   records = c.sound_images_are_lawful.ensures.records;
   stand = c.sound_images_are_lawful.ensures.tables;
+  walked = c.tables_of_layouts_are_walked.ensures;
+  speaks = c.records_are_those_of_every_reading.ensures.speakers;
+  notes = c.notes_go_on.ensures;
+  noted = c.reads_meet_no_damage.ensures.noted;
 })

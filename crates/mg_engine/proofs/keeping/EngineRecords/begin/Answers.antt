@@ -1,4 +1,4 @@
-use Rattle.std.proofs.Common.{ap, arith, false, subst, sym, ◌≡◌, inl, refl}
+use Rattle.std.proofs.Common.{arith, false, subst, sym, ◌≡◌, inl, refl}
 use Rattle.mg_core.specs.declared.parts.Core.{Core}
 use Rattle.mg_works.specs.Works.{has_session}
 use Rattle.mg_engine.specs.Places.{places}

@@ -3,8 +3,8 @@ use Rattle.mg_engine.specs.Places.{places}
 use Rattle.mg_records.specs.Keeping.{refusal_in}
 use Rattle.mg_records.specs.Room.{pages_of_row}
 use Rattle.mg_engine.proofs.ReadLemmas.{may_scan}
-use Rattle.mg_engine.proofs.WriteLemmas.{writes_apart, writes_as, writes_undamaged}
-use Rattle.mg_engine.proofs.ToldLemmas.{room_as, told_as}
+use Rattle.mg_engine.proofs.WriteLemmas.{changes_as, gives_as}
+use Rattle.mg_engine.proofs.ToldLemmas.{room_as, told_as, undamaged_as}
 use Rattle.mg_engine.proofs.RoomLemmas.{gives_room}
 use Rattle.mg_engine_meaning.specs.Meaning.{means}
 use Rattle.mg_no_damage.specs.AlikeRoom.{leaves_with, quietly_with, room_with, sessions_with, undamaged_with}
@@ -17,73 +17,100 @@ pub note_write-requires-clause-columns : goal.note_write-requires-clause-columns
 note_write-requires-clause-columns g c = (may_scan g.D.Disk.meaning c.self.inside.core c.args.self.now c.self.view_is
     c.self.invariant c.args.t.0 c.args.table.now.name c.args.table.now c.requires.table).columns
 
-pub write_noted-requires-clause-given : goal.write_noted-requires-clause-given
-write_noted-requires-clause-given g c = may_scan g.D.Disk.meaning c.self.inside.core c.args.self.now c.self.view_is
+pub write_row-requires-clause-given : goal.write_row-requires-clause-given
+write_row-requires-clause-given g c = may_scan g.D.Disk.meaning c.self.inside.core c.args.self.now c.self.view_is
     c.self.invariant c.args.t.0 c.args.table.now.name c.args.table.now c.requires.table
 
 pub invariant_of-self : goal.invariant_of-self
 invariant_of-self g c = record {
-  lawful = c.write_noted.ensures.core;
-  apart = writes_apart g.D.Disk.meaning places c.self.inside.core c.args.self.now c.write_noted.new.core
+  lawful = c.write_row.ensures.core;
+  apart = (changes_as g.D.Disk.meaning places c.self.inside.core c.args.self.now c.write_row.new.core
       c.self.view_is c.self.invariant c.counts_fit.ensures.0 c.counts_fit.ensures.1 c.args.t c.args.table.now
       c.args.write.now c.requires.table c.requires.fits c.note_write.ensures (may_scan g.D.Disk.meaning
       c.self.inside.core c.args.self.now c.self.view_is c.self.invariant c.args.t.0 c.args.table.now.name
-      c.args.table.now c.requires.table) c.noted_writes_keep_apart.ensures.writes
-      c.noted_writes_keep_apart.ensures.fails c.write_noted.result c.write_noted.ensures.writes;
+      c.args.table.now c.requires.table) c.changes_go_on.ensures c.write_row.result c.write_row.ensures.writes).apart;
 }
 
 pub returns-clause-adds : goal.returns-clause-adds
-returns-clause-adds g c = let it = writes_as g.D.Disk.meaning places c.self.inside.core c.args.self.now c.write_noted.new.core
+returns-clause-adds g c = let it = gives_as g.D.Disk.meaning places c.self.inside.core c.args.self.now c.write_row.new.core
     c.self.view_is c.self.invariant c.counts_fit.ensures.0 c.counts_fit.ensures.1 c.args.t c.args.table.now
-    c.args.write.now c.requires.table c.requires.fits c.note_write.ensures c.noted_writes_give.ensures.writes
-    c.noted_writes_give.ensures.fails c.write_noted.result c.write_noted.ensures.writes in
-    gives_room g.D.Disk.meaning places c.args.self.now c.write_noted.new.core (event_of c.args.t c.args.table.now.name c.args.write.now) c.write_noted.result pages_of_row
-    (λ o h. write_least o h c.args.t c.args.table.now.name c.args.write.now (fine_or c.write_noted.result))
+    c.args.write.now c.requires.table c.requires.fits c.note_write.ensures c.write_row.result
+    (changes_as g.D.Disk.meaning places c.self.inside.core c.args.self.now c.write_row.new.core
+    c.self.view_is c.self.invariant c.counts_fit.ensures.0 c.counts_fit.ensures.1 c.args.t c.args.table.now
+    c.args.write.now c.requires.table c.requires.fits c.note_write.ensures (may_scan g.D.Disk.meaning
+    c.self.inside.core c.args.self.now c.self.view_is c.self.invariant c.args.t.0 c.args.table.now.name
+    c.args.table.now c.requires.table) c.changes_go_on.ensures c.write_row.result c.write_row.ensures.writes) in
+    gives_room g.D.Disk.meaning places c.args.self.now c.write_row.new.core
+    (event_of c.args.t c.args.table.now.name c.args.write.now) c.write_row.result pages_of_row
+    (λ o h. write_least o h c.args.t c.args.table.now.name c.args.write.now (fine_or c.write_row.result))
     (inl (write_takes c.args.t c.args.table.now.name c.args.write.now))
     it.leaves.keeps
     (room_as g.D.Disk.meaning places c.self.inside.core c.args.self.now
-    c.write_noted.new.core c.self.view_is (refusal_in c.write_noted.result) pages_of_row
-    (c.writes_take_few.ensures c.self.inside.core c.write_noted.new.core c.args.t c.args.table.now c.args.write.now
-    c.write_noted.result c.self.invariant.lawful c.write_noted.ensures.writes))
+    c.write_row.new.core c.self.view_is (refusal_in c.write_row.result) pages_of_row
+    (changes_as g.D.Disk.meaning places c.self.inside.core c.args.self.now c.write_row.new.core
+    c.self.view_is c.self.invariant c.counts_fit.ensures.0 c.counts_fit.ensures.1 c.args.t c.args.table.now
+    c.args.write.now c.requires.table c.requires.fits c.note_write.ensures (may_scan g.D.Disk.meaning
+    c.self.inside.core c.args.self.now c.self.view_is c.self.invariant c.args.t.0 c.args.table.now.name
+    c.args.table.now c.requires.table) c.changes_go_on.ensures c.write_row.result c.write_row.ensures.writes).room)
     it.adds
 
 pub returns-clause-leaves : goal.returns-clause-leaves
-returns-clause-leaves g c = leaves_with (means g.D.Disk.meaning places) c.args.self.now c.write_noted.new.core _ _ _
-    ((writes_as g.D.Disk.meaning places c.self.inside.core c.args.self.now c.write_noted.new.core
+returns-clause-leaves g c = leaves_with (means g.D.Disk.meaning places) c.args.self.now c.write_row.new.core _ _ _
+    ((gives_as g.D.Disk.meaning places c.self.inside.core c.args.self.now c.write_row.new.core
     c.self.view_is c.self.invariant c.counts_fit.ensures.0 c.counts_fit.ensures.1 c.args.t c.args.table.now
-    c.args.write.now c.requires.table c.requires.fits c.note_write.ensures c.noted_writes_give.ensures.writes
-    c.noted_writes_give.ensures.fails c.write_noted.result c.write_noted.ensures.writes).leaves)
+    c.args.write.now c.requires.table c.requires.fits c.note_write.ensures c.write_row.result
+    (changes_as g.D.Disk.meaning places c.self.inside.core c.args.self.now c.write_row.new.core
+    c.self.view_is c.self.invariant c.counts_fit.ensures.0 c.counts_fit.ensures.1 c.args.t c.args.table.now
+    c.args.write.now c.requires.table c.requires.fits c.note_write.ensures (may_scan g.D.Disk.meaning
+    c.self.inside.core c.args.self.now c.self.view_is c.self.invariant c.args.t.0 c.args.table.now.name
+    c.args.table.now c.requires.table) c.changes_go_on.ensures c.write_row.result c.write_row.ensures.writes)).leaves)
 
 pub returns-clause-crash : goal.returns-clause-crash
-returns-clause-crash g c = quietly_with (means g.D.Disk.meaning places) c.args.self.now c.write_noted.new.core
-    ((writes_as g.D.Disk.meaning places c.self.inside.core c.args.self.now c.write_noted.new.core
+returns-clause-crash g c = quietly_with (means g.D.Disk.meaning places) c.args.self.now c.write_row.new.core
+    ((gives_as g.D.Disk.meaning places c.self.inside.core c.args.self.now c.write_row.new.core
     c.self.view_is c.self.invariant c.counts_fit.ensures.0 c.counts_fit.ensures.1 c.args.t c.args.table.now
-    c.args.write.now c.requires.table c.requires.fits c.note_write.ensures c.noted_writes_give.ensures.writes
-    c.noted_writes_give.ensures.fails c.write_noted.result c.write_noted.ensures.writes).crash)
+    c.args.write.now c.requires.table c.requires.fits c.note_write.ensures c.write_row.result
+    (changes_as g.D.Disk.meaning places c.self.inside.core c.args.self.now c.write_row.new.core
+    c.self.view_is c.self.invariant c.counts_fit.ensures.0 c.counts_fit.ensures.1 c.args.t c.args.table.now
+    c.args.write.now c.requires.table c.requires.fits c.note_write.ensures (may_scan g.D.Disk.meaning
+    c.self.inside.core c.args.self.now c.self.view_is c.self.invariant c.args.t.0 c.args.table.now.name
+    c.args.table.now c.requires.table) c.changes_go_on.ensures c.write_row.result c.write_row.ensures.writes)).crash)
 
 pub returns-clause-sessions : goal.returns-clause-sessions
-returns-clause-sessions g c = sessions_with (means g.D.Disk.meaning places) c.args.self.now c.write_noted.new.core _ _
-    ((writes_as g.D.Disk.meaning places c.self.inside.core c.args.self.now c.write_noted.new.core
+returns-clause-sessions g c = sessions_with (means g.D.Disk.meaning places) c.args.self.now c.write_row.new.core _ _
+    ((gives_as g.D.Disk.meaning places c.self.inside.core c.args.self.now c.write_row.new.core
     c.self.view_is c.self.invariant c.counts_fit.ensures.0 c.counts_fit.ensures.1 c.args.t c.args.table.now
-    c.args.write.now c.requires.table c.requires.fits c.note_write.ensures c.noted_writes_give.ensures.writes
-    c.noted_writes_give.ensures.fails c.write_noted.result c.write_noted.ensures.writes).sessions)
+    c.args.write.now c.requires.table c.requires.fits c.note_write.ensures c.write_row.result
+    (changes_as g.D.Disk.meaning places c.self.inside.core c.args.self.now c.write_row.new.core
+    c.self.view_is c.self.invariant c.counts_fit.ensures.0 c.counts_fit.ensures.1 c.args.t c.args.table.now
+    c.args.write.now c.requires.table c.requires.fits c.note_write.ensures (may_scan g.D.Disk.meaning
+    c.self.inside.core c.args.self.now c.self.view_is c.self.invariant c.args.t.0 c.args.table.now.name
+    c.args.table.now c.requires.table) c.changes_go_on.ensures c.write_row.result c.write_row.ensures.writes)).sessions)
 
 pub returns-clause-told : goal.returns-clause-told
 returns-clause-told g c = told_as g.D.Disk.meaning places c.self.inside.core c.args.self.now
-    c.write_noted.new.core c.self.view_is (refusal_in c.write_noted.result)
-    (c.changes_tell_faults.ensures.writes c.self.inside.core c.write_noted.new.core c.args.t c.args.table.now
-    c.args.write.now c.write_noted.result c.write_noted.ensures.writes)
+    c.write_row.new.core c.self.view_is (refusal_in c.write_row.result)
+    (changes_as g.D.Disk.meaning places c.self.inside.core c.args.self.now c.write_row.new.core
+    c.self.view_is c.self.invariant c.counts_fit.ensures.0 c.counts_fit.ensures.1 c.args.t c.args.table.now
+    c.args.write.now c.requires.table c.requires.fits c.note_write.ensures (may_scan g.D.Disk.meaning
+    c.self.inside.core c.args.self.now c.self.view_is c.self.invariant c.args.t.0 c.args.table.now.name
+    c.args.table.now c.requires.table) c.changes_go_on.ensures c.write_row.result c.write_row.ensures.writes).told
 
 pub returns-clause-undamaged : goal.returns-clause-undamaged
-returns-clause-undamaged g c = undamaged_with (means g.D.Disk.meaning places) c.args.self.now c.write_noted.new.core
-    (writes_undamaged g.D.Disk.meaning places c.self.inside.core c.args.self.now
-    c.write_noted.new.core c.self.view_is c.self.invariant c.counts_fit.ensures.0 c.counts_fit.ensures.1 c.args.t
-    c.args.table.now c.args.write.now c.requires.table c.requires.fits c.note_write.ensures
-    c.writes_meet_no_damage.ensures c.write_noted.result c.write_noted.ensures.writes)
+returns-clause-undamaged g c = undamaged_with (means g.D.Disk.meaning places) c.args.self.now c.write_row.new.core
+    (undamaged_as g.D.Disk.meaning places c.self.inside.core c.args.self.now c.write_row.new.core c.self.view_is
+    (changes_as g.D.Disk.meaning places c.self.inside.core c.args.self.now c.write_row.new.core
+    c.self.view_is c.self.invariant c.counts_fit.ensures.0 c.counts_fit.ensures.1 c.args.t c.args.table.now
+    c.args.write.now c.requires.table c.requires.fits c.note_write.ensures (may_scan g.D.Disk.meaning
+    c.self.inside.core c.args.self.now c.self.view_is c.self.invariant c.args.t.0 c.args.table.now.name
+    c.args.table.now c.requires.table) c.changes_go_on.ensures c.write_row.result c.write_row.ensures.writes).undamaged)
 
 pub returns-clause-room : goal.returns-clause-room
-returns-clause-room g c = room_with (means g.D.Disk.meaning places) c.args.self.now c.write_noted.new.core _ _
+returns-clause-room g c = room_with (means g.D.Disk.meaning places) c.args.self.now c.write_row.new.core _ _
     (room_as g.D.Disk.meaning places c.self.inside.core c.args.self.now
-    c.write_noted.new.core c.self.view_is (refusal_in c.write_noted.result) pages_of_row
-    (c.writes_take_few.ensures c.self.inside.core c.write_noted.new.core c.args.t c.args.table.now c.args.write.now
-    c.write_noted.result c.self.invariant.lawful c.write_noted.ensures.writes))
+    c.write_row.new.core c.self.view_is (refusal_in c.write_row.result) pages_of_row
+    (changes_as g.D.Disk.meaning places c.self.inside.core c.args.self.now c.write_row.new.core
+    c.self.view_is c.self.invariant c.counts_fit.ensures.0 c.counts_fit.ensures.1 c.args.t c.args.table.now
+    c.args.write.now c.requires.table c.requires.fits c.note_write.ensures (may_scan g.D.Disk.meaning
+    c.self.inside.core c.args.self.now c.self.view_is c.self.invariant c.args.t.0 c.args.table.now.name
+    c.args.table.now c.requires.table) c.changes_go_on.ensures c.write_row.result c.write_row.ensures.writes).room)
