@@ -6,6 +6,7 @@
 
 ghost use Rattle.std.specs.Prelude.{◌≡◌, ◌*◌, true, IfOk, IfSome, OnOk, OnErr, pos, ◌≤ℤ◌, ◌<◌, ◌+◌, ◌-◌, ◌^◌, max};
 ghost use Rattle.std.specs.Fd.{file_raw_fd};
+ghost use Rattle.std.specs.Option.{ForSome};
 ghost use Rattle.mg_base.specs.Geometry.{is_page_size};
 
 use crate::{Device, ForcedWrites};
@@ -23,11 +24,21 @@ const FRONT: usize = 28;
 /// The descriptors below this one are those of the standard streams.
 const LEAST_DESCRIPTOR: i32 = 3;
 
-/// The open file, its length and its page size in bytes, and its number of pages. A partial last page
-/// counts.
+/// What a call may do with a file.
+#[derive(Clone, Copy, Debug, PartialEq, Eq)]
+enum Access {
+    /// It is made where it is not there, read and written.
+    Work,
+    /// It is read alone, and never made.
+    Look,
+}
+
+/// The open file, if there is one, its length and its page size in bytes, and its number of pages. A
+/// partial last page counts.
 #[derive(Drop)]
 struct Opened {
-    file: File,
+    // None where nothing was there and nothing may be made: then there are no pages.
+    file: Option<File>,
     length: u64,
     size: u32,
     pages: u32,
@@ -35,13 +46,16 @@ struct Opened {
     // the system's memory.
     synced: bool,
     ghost lawful: { is_page_size size ≡ true },
-    ghost above_streams: { pos 3 ≤ℤ file_raw_fd file },
+    ghost above_streams: { ForSome file (λ it. pos 3 ≤ℤ file_raw_fd it) },
 }
 
 impl Opened {
     // Reads a page. What the file does not have of its last page is zero; a page of which it has
     // nothing is not read, nor one that was cut since the file was opened.
     fn read_page(&self, page: PageNo, into: &mut [u8]) -> io::Result<()> {
+        let Some(file) = &self.file else {
+            return Err(io::Error::from(ErrorKind::NotFound));
+        };
         let start = start_of(page, self.size);
         if self.length <= start {
             return Err(io::Error::from(ErrorKind::UnexpectedEof));
@@ -49,28 +63,32 @@ impl Opened {
         let there = usize::try_from(self.length - start)
             .unwrap_or(into.len())
             .min(into.len());
-        self.file.read_exact_at(&mut into[..there], start)?;
+        file.read_exact_at(&mut into[..there], start)?;
         into[there..].fill(0);
         Ok(())
     }
 
-    // Writes a page. A file whose length another hand has changed is not written.
+    // Writes a page. A file whose length another hand has changed is not written, nor one that may only
+    // be read.
     fn write_page(&mut self, page: PageNo, bytes: &[u8]) -> io::Result<()>
         requires { page.0 < 2 ^ 32 - 1 }
         ensures size { self.new.size ≡ self.old.size }
         ensures pages { OnOk result (self.new.pages ≡ max self.old.pages (page.0 + 1)) }
         ensures not_written { OnErr result (self.new.pages ≡ self.old.pages) }
     {
-        if self.file.metadata()?.len() != self.length {
+        let Some(file) = &self.file else {
+            return Err(io::Error::from(ErrorKind::NotFound));
+        };
+        if file.metadata()?.len() != self.length {
             return Err(io::Error::from(ErrorKind::UnexpectedEof));
         }
         self.synced = false;
         let start = start_of(page, self.size);
         let length = self.length.max(start.saturating_add(bytes.len() as u64));
-        if let Err(error) = self.file.write_all_at(bytes, start) {
+        if let Err(error) = file.write_all_at(bytes, start) {
             if self.length < length {
                 // Part of the page may be there, past the end that the file had.
-                let _ = self.file.set_len(self.length);
+                let _ = file.set_len(self.length);
             }
             return Err(error);
         }
@@ -80,8 +98,9 @@ impl Opened {
     }
 }
 
-/// A device over the file at a path, which it opens or creates at its first call. From then on it has
-/// the file's exclusive lock, so that no second process works on the file.
+/// A device over the file at a path, which it opens at its first call. From then on it has the file's
+/// exclusive lock, so that no second process works on the file. Where nothing is at the path, the file
+/// is made, or, by a device that only looks at it, taken as one without pages.
 ///
 /// Only a regular file is opened: of anything else nothing is read or written. An opening that is
 /// refused leaves no new file.
@@ -89,6 +108,7 @@ impl Opened {
 pub struct FileDevice<R> {
     rt: R,
     path: String,
+    access: Access,
     wanted: u32,
     opened: Option<Opened>,
     // A page write or a sync has failed.
@@ -101,14 +121,30 @@ pub struct FileDevice<R> {
 pub type FileDisk<R> = ForcedWrites<FileDevice<R>>;
 
 impl<R> ForcedWrites<FileDevice<R>> {
-    /// A disk over the file at `path`. `wanted` is the page size of a file that does not tell its own,
-    /// one of the five. Nothing is opened yet.
+    /// A disk over the file at `path`, which is made where it is not there. `wanted` is the page size of
+    /// a file that does not tell its own, one of the five. Nothing is opened yet.
     pub fn at(rt: R, path: String, wanted: u32) -> FileDisk<R>
+        requires { is_page_size wanted ≡ true }
+    {
+        FileDisk::with(rt, path, Access::Work, wanted)
+    }
+
+    /// A disk over the file at `path`, to be read alone: the system opens it for reading, and each page
+    /// write fails. No file is made: where none is there, the disk has no pages. `wanted` is the page size
+    /// of a file that does not tell its own, one of the five. Nothing is opened yet.
+    pub fn to_look_at(rt: R, path: String, wanted: u32) -> FileDisk<R>
+        requires { is_page_size wanted ≡ true }
+    {
+        FileDisk::with(rt, path, Access::Look, wanted)
+    }
+
+    fn with(rt: R, path: String, access: Access, wanted: u32) -> FileDisk<R>
         requires { is_page_size wanted ≡ true }
     {
         ForcedWrites::new(FileDevice {
             rt,
             path,
+            access,
             wanted,
             opened: None,
             failed: false,
@@ -131,7 +167,11 @@ impl<R: Files<File = File> + AllocGlobal> FileDevice<R> {
         if self.opened.is_some() {
             return Ok(());
         }
-        match open_file(&self.rt, &self.path, self.wanted) {
+        let found = match self.access {
+            Access::Work => open_file(&self.rt, &self.path, self.wanted),
+            Access::Look => look_at_file(&self.rt, &self.path, self.wanted),
+        };
+        match found {
             Ok(opened) => {
                 self.opened = Some(opened);
                 Ok(())
@@ -198,7 +238,10 @@ impl<R: Files<File = File> + AllocGlobal> Device for FileDevice<R> {
     fn sync(&mut self) -> Result<(), DiskFault> {
         let synced = match &mut self.opened {
             Some(opened) => {
-                opened.synced = opened.file.sync_data().is_ok();
+                opened.synced = match &opened.file {
+                    Some(file) => file.sync_data().is_ok(),
+                    None => true,
+                };
                 opened.synced
             }
             None => true,
@@ -241,19 +284,47 @@ fn open_file<R: Files<File = File> + AllocGlobal>(
     )?;
     file.try_lock()?;
     match look(rt, path, &file, wanted) {
-        Ok((length, size)) => Ok(Opened {
-            file,
-            length,
-            size,
-            pages: u32::try_from(length.div_ceil(u64::from(size))).unwrap_or(u32::MAX),
-            synced: false,
-        }),
+        Ok((length, size)) => Ok(locked_file(file, length, size)),
         Err(error) => {
             if made {
                 let _ = take_away(rt, path, &file);
             }
             Err(error)
         }
+    }
+}
+
+// Opens the file for reading alone and takes its lock. Where nothing is at the path there are no pages.
+fn look_at_file<R: Files<File = File>>(rt: &R, path: &str, wanted: u32) -> io::Result<Opened>
+    requires { is_page_size wanted ≡ true }
+{
+    if is_missing(rt, path)? {
+        return Ok(Opened {
+            file: None,
+            length: 0,
+            size: wanted,
+            pages: 0,
+            synced: true,
+        });
+    }
+    let file = above_streams(OpenOptions::new().read(true).open(rt, path)?)?;
+    file.try_lock()?;
+    let length = locked_length(rt, path, &file)?;
+    let size = told_size(&file, length)?.unwrap_or(wanted);
+    Ok(locked_file(file, length, size))
+}
+
+// A file that was opened and locked, of this length.
+fn locked_file(file: File, length: u64, size: u32) -> Opened
+    requires sized { is_page_size size ≡ true }
+    requires above_streams { pos 3 ≤ℤ file_raw_fd file }
+{
+    Opened {
+        file: Some(file),
+        length,
+        size,
+        pages: u32::try_from(length.div_ceil(u64::from(size))).unwrap_or(u32::MAX),
+        synced: false,
     }
 }
 
@@ -283,8 +354,18 @@ fn above_streams(file: File) -> io::Result<File>
     }
 }
 
-// The length and the page size of the file that is locked. A path that leads elsewhere by now, or to
-// something else than a file, is refused. The name of an empty file is made to reach its folder.
+// The length of the file that is locked. A path that leads elsewhere by now, or to something else than a
+// file, is refused.
+fn locked_length<R: Files<File = File>>(rt: &R, path: &str, file: &File) -> io::Result<u64> {
+    let locked = file.metadata()?;
+    if !locked.is_file() || !is_same(&locked, &fs::metadata(rt, path)?) {
+        return Err(io::Error::from(ErrorKind::InvalidInput));
+    }
+    Ok(locked.len())
+}
+
+// The length and the page size of the file that is locked. The name of an empty file is made to reach its
+// folder.
 fn look<R: Files<File = File> + AllocGlobal>(
     rt: &R,
     path: &str,
@@ -294,11 +375,7 @@ fn look<R: Files<File = File> + AllocGlobal>(
     requires { is_page_size wanted ≡ true }
     ensures { IfOk result (λ it. is_page_size it.1 ≡ true) }
 {
-    let locked = file.metadata()?;
-    if !locked.is_file() || !is_same(&locked, &fs::metadata(rt, path)?) {
-        return Err(io::Error::from(ErrorKind::InvalidInput));
-    }
-    let length = locked.len();
+    let length = locked_length(rt, path, file)?;
     if length == 0 {
         let real = fs::canonicalize(rt, path)?;
         File::open(rt, folder_of(real.as_str()))?.sync_all()?;
