@@ -1,7 +1,6 @@
 -- A command line asks for one command.
 use Rattle.std.proofs.Common.{◌≡◌, ◌∙◌, ℕ, List, [], ◌∷◌, Option, None, refl, sym, ap, ap₂, subst}
-use Rattle.mg_words.specs.Words.{Spells}
-use Rattle.mg_commands.specs.CommandLine.{Asks, Follow, FollowStop, Gives, IsCommandLine, Tends, care_word, command_word, every_option, stop_alone, storm_options, with_number, without}
+use Rattle.mg_commands.specs.CommandLine.{Asks, Follow, FollowStop, IsCommandLine, Tends, care_word, command_word, every_option, stop_alone, storm_options, with_number, without}
 use Rattle.mg_commands.specs.SpellingLaws.{care_once, command_once, spelled_once, spells_once}
 use Rattle.mg_commands.specs.declared.command.Care.{Care}
 use Rattle.mg_commands.specs.declared.command.Care.TheVariants.{Validate, ListLimbo, Commit, Rollback, Sweep}

@@ -16,14 +16,14 @@ use mg_words::unsigned;
 pub(crate) const MOST_ROWS: u32 = 100_000;
 
 /// Whether a word is a path.
-fn is_path(word: &String) -> bool
+pub(crate) fn is_path(word: &String) -> bool
     ensures { IsTrue result ↔ IsPath (string_bytes word.now) }
 {
     word.as_bytes().first() != Some(&b'-')
 }
 
 /// Whether words are options, of those that may come.
-fn are_options(left: Switches, words: &[String]) -> bool
+pub(crate) fn are_options(left: Switches, words: &[String]) -> bool
     ensures { IsTrue result ↔ ((options : AnyOptions) × Follow left (texts words.now) options) }
 {
     if words.is_empty() {

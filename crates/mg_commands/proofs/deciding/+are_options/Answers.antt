@@ -1,6 +1,6 @@
 use Rattle.std.proofs.Common.{◌≡◌, ◌∙◌, refl, sym, arith, length}
 use Rattle.std.proofs.lemmas.Bool.{eqb-true}
-use Rattle.mg_commands.proofs.OptionLemmas.{behind_two, none_follow, none_given}
+use Rattle.mg_commands.proofs.OptionLemmas.{behind_two, none_follow}
 use Rattle.mg_commands.proofs.deciding.+are_options.Goals as goal
 
 pub returns-then-is_empty : goal.returns-then-is_empty

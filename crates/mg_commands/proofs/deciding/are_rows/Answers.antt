@@ -1,4 +1,4 @@
-use Rattle.std.proofs.Common.{rules, sym, ◌∙◌}
+use Rattle.std.proofs.Common.{◌∙◌}
 use Rattle.std.specs.Prelude.{string_bytes}
 use Rattle.mg_commands.specs.SpellingLaws.{rows_told}
 use Rattle.mg_commands.proofs.deciding.are_rows.Goals as goal
