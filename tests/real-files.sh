@@ -286,6 +286,122 @@ many_waits() {
     check 'fifteen sessions wait' "A: OK"$'\n'"${wanted}status 1" "$(run waits "$script"'A: COMMIT\n' | tail -n 17)"
 }
 
+# ---- transactions in limbo
+
+# list FILE [OPTION..]: what the list of the transactions in limbo printed, and its status behind it.
+list() {
+    "$mgdb" gfix "$1" list "${@:2}" < /dev/null
+    echo "status $?"
+}
+
+# set_byte FILE AT BYTE: a byte of a file becomes this one.
+set_byte() { printf '%b' "\\x$(printf %x "$3")" | dd of="$1" bs=1 seek="$2" conv=notrunc 2> /dev/null; }
+
+# check_list NAME FILE WANTED [OPTION..]: what is listed of a file, which stays as it is.
+check_list() {
+    local before
+    before=$(sum "$2")
+    check "the list of $1" "$3" "$(list "$2" "${@:4}")"
+    check "the list of $1 leaves the file as it is" "$before" "$(sum "$2")"
+}
+
+other_fixes() {
+    local words
+    rm -f unmade
+    while read -r words; do
+        # (each word of a line is one of the program)
+        # shellcheck disable=SC2086
+        check "no command: $words" $'mgdb: USAGE\nstatus 2' "$("$mgdb" $words < /dev/null; echo "status $?")"
+    done << 'END'
+gfix
+gfix unmade
+gfix list unmade
+gfix -x list
+gfix unmade LIST
+gfix unmade list 1
+gfix unmade list --stop
+gfix unmade list --stop 01
+gfix unmade list --stop 1 --stop 1
+gfix unmade list --page 1024
+gfix unmade list --limit 16
+gfix unmade --stop 1 list
+gfix unmade validate
+gfix unmade commit 1
+gfix unmade rollback 1
+gfix unmade sweep
+gstat unmade
+load unmade 1
+storm unmade
+list unmade
+run unmade list
+END
+    check 'no command makes a file' 'no' "$([ -e unmade ] && echo yes || echo no)"
+}
+
+limbo_lists() {
+    local before bytes
+    check 'the list of no file' $'gfix: NOT A DATABASE MAGIC FOUND 0\nstatus 4' "$(list absent)"
+    check 'the list of no file, in no folder' $'gfix: NOT A DATABASE MAGIC FOUND 0\nstatus 4' "$(list absent/db)"
+    check 'a list makes no file' 'no' "$([ -e absent ] && echo yes || echo no)"
+    : > blank
+    check_list 'an empty file' blank $'gfix: NOT A DATABASE MAGIC FOUND 0\nstatus 4'
+    run new '' > /dev/null
+    check_list 'a new database' new 'status 0'
+    run decided '@put 1 10\n@put 1 20\n@put 2 30\nA: SET TRANSACTION\nA: UPDATE KV SET V = 1\nA: ROLLBACK\n@put 3 1\n' > /dev/null
+    check_list 'a database after a run' decided 'status 0'
+    # Two bits for each transaction, from byte 20 of page 2 on: 1 and 3 are put into limbo.
+    set_byte decided 8212 119
+    check_list 'two in limbo' decided $'LIMBO 1\nLIMBO 3\nstatus 0'
+    check_list 'two in limbo, with no page write' decided $'LIMBO 1\nLIMBO 3\nstatus 0' --stop 0
+    before=$(sum decided)
+    "$mgdb" gfix decided list < /dev/null >&-
+    check 'a list to a closed output ends with 5' 5 $?
+    check 'a list to a closed output leaves the file as it is' "$before" "$(sum decided)"
+    check 'a list with a closed input' $'LIMBO 1\nLIMBO 3\nstatus 0' "$("$mgdb" gfix decided list <&-; echo "status $?")"
+    check 'a key of one in limbo' $'A: OK TX 6\nA: IN LIMBO 3\nA: OK\nstatus 1' \
+        "$(run decided 'A: SET TRANSACTION\nA: INSERT INTO KV VALUES (2, 7)\nA: COMMIT\n')"
+    check_list 'two in limbo, behind a run' decided $'LIMBO 1\nLIMBO 3\nstatus 0'
+    for bytes in 1024 16384; do
+        rm -f sized
+        run sized '@put 1 10\n' --page "$bytes" > /dev/null
+        set_byte sized $((2 * bytes + 20)) 7
+        check_list "one in limbo, $bytes bytes a page" sized $'LIMBO 1\nstatus 0'
+    done
+}
+
+damaged_lists() {
+    local how before
+    printf 'hello' > greeting
+    check_list 'a text' greeting $'gfix: NOT A DATABASE MAGIC FOUND 0\nstatus 4'
+    fresh damaged
+    set_byte damaged 16 78
+    check_list 'another mark' damaged $'gfix: NOT A DATABASE MAGIC FOUND 1111770958\nstatus 4'
+    fresh damaged
+    set_byte damaged 44 0
+    check_list 'a damaged header' damaged $'gfix: DAMAGED PAGE 0 LINK FOUND 0 WANTED 131071\nstatus 4'
+    fresh damaged
+    set_byte damaged 8192 9
+    check_list 'a damaged inventory' damaged $'gfix: DAMAGED PAGE 2 KIND FOUND 9 WANTED 3\nstatus 4'
+    fresh damaged
+    truncate -s 8192 damaged
+    check_list 'a cut file' damaged $'gfix: DAMAGED PAGE 2 PRESENCE FOUND 2 WANTED 3\nstatus 4'
+    mkdir shelf
+    mkfifo tube
+    check 'the list of a folder' $'gfix: DISK READ FAULT\nstatus 3' "$(list shelf)"
+    check 'the list of a pipe' $'gfix: DISK READ FAULT\nstatus 3' "$(list tube)"
+    check 'the list of a device' $'gfix: DISK READ FAULT\nstatus 3' "$(list /dev/null)"
+    fresh held
+    before=$(sum held)
+    for how in --exclusive --shared; do
+        exec 9< held
+        flock "$how" 9
+        check "the list of a file that is locked, $how" $'gfix: DISK READ FAULT\nstatus 3' "$(list held 9<&-)"
+        exec 9<&-
+    done
+    check_list 'a file that is free again' held 'status 0'
+    check 'a file that was locked stays as it is' "$before" "$(sum held)"
+}
+
 # ---- what is left of a run
 
 # A run is stopped after n page writes, for each n until it ends by itself. What was acknowledged is there, and of a
@@ -355,6 +471,9 @@ taken_back
 catalogs
 many_rows
 many_waits
+other_fixes
+limbo_lists
+damaged_lists
 stopped_runs
 kills
 finish 'real files'

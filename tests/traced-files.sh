@@ -197,6 +197,23 @@ second_process() {
     check 'and the first one goes on' $'@get: 30\nstatus 0' "$ended"
 }
 
+# The list of the transactions in limbo opens the file for reading alone, and asks for nothing that changes it; a file that
+# is not there is not opened.
+lists() {
+    local left
+    fresh listed
+    left=$(sum listed)
+    strace -y -s 200 -o trace "$mgdb" gfix listed list < /dev/null > listed.out
+    check 'a list' 'status 0' "$(cat listed.out)status $?"
+    check 'opens its file for reading alone' 'O_RDONLY|O_NOCTTY|O_CLOEXEC' "$(sed -n 's/^openat([^"]*"listed", \([A-Z_|]*\).*/\1/p' trace)"
+    check 'takes its lock' 1 "$(grep -c '^flock(.*/listed>, LOCK_EX|LOCK_NB) = 0' trace)"
+    check 'writes nothing to it' 0 "$(grep -c '^\(p\?write\|pwrite64\|pwritev\|ftruncate\|fallocate\)(.*/listed>' trace)"
+    check 'reads each page once' 7 "$(grep '^pread64(.*/listed>' trace | sed -n 's/.*, \([0-9]*\)) = 4096$/\1/p' | sort -u | grep -c '')"
+    check 'and leaves it as it is' "$left" "$(sum listed)"
+    strace -y -s 200 -o trace "$mgdb" gfix nowhere list < /dev/null > listed.out
+    check 'a list of no file opens none' 0 "$(grep -c '^openat(.*nowhere' trace)"
+}
+
 if ! has_tracer; then
     cat tracer.log
     check 'strace is there, or can be installed by apt-get, and may trace' yes no
@@ -209,4 +226,5 @@ short_writes
 changed_lengths
 cut_under_a_reader
 second_process
+lists
 finish 'traced files'

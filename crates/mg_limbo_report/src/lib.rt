@@ -6,7 +6,7 @@
 //!
 //! Invariant: none, it keeps no state. It has the pages of the disk in memory while it works.
 //! Below: `mg_overview`, which reads the disk; `mg_limbo_list`, for the list; `mg_script`, for the texts of refusals;
-//! `mg_run_ends`, for statuses. Above: nobody yet, the program has no such command.
+//! `mg_run_ends`, for statuses. Above: `mg_program`.
 //! Not here: the words that ask for it, and how a file becomes a disk.
 #![tactic(auto)]
 

@@ -1,5 +1,5 @@
 -- What a run with `--stop` leaves holds what was durable behind each of its lines.
-use Rattle.std.proofs.Common.{◌≡◌, ◌⊎◌, ℕ, List, [], inl, inr, subst}
+use Rattle.std.proofs.Common.{◌⊎◌, ℕ, List, [], inl, inr, subst}
 use Rattle.mg_base.specs.Disk.{Meaning}
 use Rattle.mg_base.specs.Streams.{SinkMeaning, SourceMeaning}
 use Rattle.mg_model.specs.History.{Entries}

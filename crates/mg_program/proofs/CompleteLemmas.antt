@@ -1,8 +1,6 @@
 -- A run on which nothing fails comes to its end.
-use Rattle.std.proofs.Common.{◌≡◌, ◌⊎◌, ◌≤◌, ℕ, true, false, List, Some, length, inl, inr, refl, sym, ap, ◌∙◌, subst, arith}
-use Rattle.std.specs.Prelude.{None}
+use Rattle.std.proofs.Common.{◌≡◌, ◌⊎◌, ℕ, true, false, List, inl, inr, refl, ap, ◌∙◌, subst, arith}
 use Rattle.mg_base.specs.Disk.{Meaning, Rose}
-use Rattle.mg_base.specs.Image.{Image}
 use Rattle.mg_base.specs.Streams.{SinkMeaning, SourceMeaning}
 use Rattle.mg_engine_meaning.specs.Openings.{IsNoJudgement}
 use Rattle.mg_model.specs.declared.opening.Opening.{Opening}
@@ -10,9 +8,8 @@ use Rattle.mg_model.specs.declared.refusal.Refusal.{Refusal}
 use Rattle.mg_model.specs.declared.refusal.Refusal.TheVariants as refusals
 use Rattle.mg_run_ends.specs.declared.ending.RunEnd.{RunEnd}
 use Rattle.mg_run_ends.specs.declared.ending.RunEnd.TheVariants.{InLine, Outside, ScriptTooLong, Stream, Whole}
-use Rattle.mg_run_ends.specs.declared.ending.TheConstants.{SCRIPT_MOST}
 use Rattle.mg_run_ends.specs.Ends.{EndsWith, FailsWith, refused_status, status, status_of}
-use Rattle.mg_runs.specs.Entry.{IsEntry, limit_on}
+use Rattle.mg_runs.specs.Entry.{limit_on}
 use Rattle.mg_runs.specs.Headline.{AreServed, AreUnserved, EndsBehind, Headline, IsOpeningFault, IsUnjudged}
 use Rattle.mg_runs.specs.Promise.{IsReadingEnd, Promise}
 use Rattle.mg_runs.specs.UnjudgedLaws.{stops_so}
@@ -25,7 +22,6 @@ use Rattle.mg_scripts.specs.declared.lines.LinesEnd.TheVariants as lines_ends
 use Rattle.mg_transcript.specs.Lines.{last_reply}
 use Rattle.mg_transcript.specs.Shorthand.{stops_run}
 use Rattle.mg_program.specs.Complete.{IsComplete, IsShort, RunsAreComplete}
-use Rattle.mg_program.specs.Top.{Runs}
 
 module _ {D : Type 0} (m : Meaning D) (old new : D) (ok : Rose (m.faults old) (m.faults new) → ⊥) where
   -- the status of a refusal that is none of the disk's faults, and no judgement of what the disk holds

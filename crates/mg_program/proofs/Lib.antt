@@ -1,5 +1,6 @@
 mod ServingLemmas
 mod RunLemmas
 mod TopLemmas
+mod ListingLemmas
 mod CompleteLemmas
 mod AcknowledgedLemmas

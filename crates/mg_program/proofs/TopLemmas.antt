@@ -29,7 +29,7 @@ use Rattle.mg_program.specs.Top.{EndsOrStops, FailsOrStops, Runs}
 
 -- ---- statuses
 
-refused_below : (refusal : Refusal) → ((refused_status refusal).0 < 8) × ((refused_status refusal).0 ≢ 2)
+pub refused_below : (refusal : Refusal) → ((refused_status refusal).0 < 8) × ((refused_status refusal).0 ≢ 2)
 refused_below (refusals.DiskRead faults) = (omega arith, λ is. omega (arith, is))
 refused_below (refusals.DiskWrite faults) = (omega arith, λ is. omega (arith, is))
 refused_below (refusals.Offline faults) = (omega arith, λ is. omega (arith, is))

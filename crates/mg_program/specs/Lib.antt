@@ -1,4 +1,5 @@
 pub mod Serving
 pub mod Top
+pub mod Listing
 pub mod Complete
 pub mod Acknowledged

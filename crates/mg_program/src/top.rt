@@ -1,15 +1,19 @@
 //! The top call: the whole program, over any disk and any streams.
 
-ghost use Rattle.std.specs.Prelude.{◌≡◌, ◌≢◌, ◌↔◌, ◌<◌, Some};
+ghost use Rattle.std.specs.Prelude.{◌≡◌, ◌↔◌, ◌<◌, Some};
+ghost use Rattle.mg_commands.specs.Program.{IsLimboLine, IsProgramLine};
 ghost use Rattle.mg_words.specs.declared.asked.Asked.{Asked as AnyAsked};
 ghost use Rattle.mg_words.specs.Words.{IsRun, texts};
+ghost use Rattle.mg_program.specs.Listing.{HasListed, ListsLimbo};
 ghost use Rattle.mg_program.specs.Top.{HasRun, IsUsage, Runs, limit_asked};
 
 use crate::running::run;
 use mg_base::{GREATEST_LIMIT, Sink, Source};
+use mg_commands::{ProgramCommand, read_command, run_lines_list_none};
 use mg_fuse::{CountsWrites, Stopped, stopped_disks_are_asked_for_no_more};
+use mg_limbo_report::{LimboEnd, tell_limbo};
 use mg_run_ends::{RunEnd, Status, put_line};
-use mg_words::{Asked, read_words};
+use mg_words::Asked;
 use std::alloc::Global;
 
 /// The disks that a command line names.
@@ -22,10 +26,14 @@ pub struct Shelf<D> {
 
 /// Does what the words ask for, and gives the disks back.
 ///
-/// `words` begin with the program's name. Where they are no command line it prints USAGE, and neither reads nor writes
-/// anything else. `--stop N` lets the first N page writes through and fails each later one; `--limit N` is the greatest
-/// number of pages, and 131,072 without it, by which pages are free for what the lines write. `--page` is for who makes
-/// the disk (`wanted_page`).
+/// `words` begin with the program's name. Where they are no command line of a command that the program has, it prints
+/// USAGE, and neither reads nor writes anything else.
+///
+/// `run DB` obeys the script. `--stop N` lets the first N page writes through and fails each later one; `--limit N` is the
+/// greatest number of pages, and 131,072 without it, by which pages are free for what the lines write. `--page` is for who
+/// makes the disk (`wanted_page`).
+///
+/// `gfix DB list` prints the transactions in limbo. It reads no script and writes no page, so `--stop` changes nothing.
 pub fn mgdb<R: AllocGlobal + Drop, D: CountsWrites + Send + 'static, S: Source, K: Sink>(
     rt: R,
     words: &[String],
@@ -33,22 +41,42 @@ pub fn mgdb<R: AllocGlobal + Drop, D: CountsWrites + Send + 'static, S: Source, 
     source: &mut S,
     sink: &mut K,
 ) -> (Status, Shelf<D>)
-    ensures usage { (result.0.0 ≡ 2) ↔ ((asked : AnyAsked) → IsRun (texts words.now) asked → ⊥) }
+    ensures usage { (result.0.0 ≡ 2) ↔ (IsProgramLine (texts words.now) → ⊥) }
     ensures untouched { result.0.0 ≡ 2
         → IsUsage K.meaning shelf result.1 source.old source.new sink.old sink.new }
-    ensures runs { result.0.0 ≢ 2
+    ensures runs { (asked : AnyAsked) → IsRun (texts words.now) asked
         → HasRun D.meaning D.counts_to S.meaning K.meaning (texts words.now) source.old source.new shelf.first
         result.1.first sink.old sink.new result.0 }
+    ensures lists { IsLimboLine (texts words.now)
+        → HasListed D.meaning K.meaning source.old source.new shelf.first result.1.first sink.old sink.new result.0 }
     ensures second { result.1.second ≡ shelf.second }
     ensures range { result.0.0 < 8 }
 {
-    let Some(asked) = read_words(words) else {
+    run_lines_list_none();
+    let Some(command) = read_command(words) else {
         put_line(b"mgdb: USAGE\n", sink);
         return (Status::USAGE, shelf);
     };
     let Shelf { first, second } = shelf;
-    let (end, first) = run_asked(rt.alloc(), asked, first, source, sink);
-    (end.status(), Shelf { first, second })
+    match command {
+        ProgramCommand::Run(asked) => {
+            let (end, first) = run_asked(rt.alloc(), asked, first, source, sink);
+            (end.status(), Shelf { first, second })
+        }
+        ProgramCommand::ListLimbo => {
+            let (end, first) = list_limbo(rt.alloc(), first, sink);
+            (end.status(), Shelf { first, second })
+        }
+    }
+}
+
+// Lists the transactions in limbo of a disk that comes back.
+fn list_limbo<D: CountsWrites, K: Sink>(alloc: Global, disk: D, sink: &mut K) -> (LimboEnd, D)
+    ensures { ListsLimbo D.meaning K.meaning disk result.1 sink.old sink.new result.0 }
+{
+    let mut disk = disk;
+    let end = tell_limbo(alloc, &mut disk, sink);
+    (end, disk)
 }
 
 // Obeys a command line that was read.

@@ -1,15 +1,18 @@
 //! The program: `mgdb run DB` obeys the script on standard input, on the database in the file DB, and
-//! prints on standard output.
+//! prints on standard output; `mgdb gfix DB list` prints the transactions in limbo of that file.
 //!
-//! Owns: which file and which streams the top call gets, and the status that the process ends with.
+//! Owns: which file and which streams the top call gets, and the status that the process ends with. Only `run` gets
+//! a file that may be made and written.
 //!
 //! Invariant: none, it keeps no state.
-//! Below: `mg_program`, the top call, with all that is promised of a run; `mg_words` for the page size
-//! of a new file; `mg_device` for the file; `mg_base` for the streams; `mg_run_ends` for the line of want of memory.
+//! Below: `mg_program`, the top call, with all that is promised of a command; `mg_commands` for what the words ask for,
+//! `mg_words` for the page size of a new file; `mg_device` for the file; `mg_base` for the streams; `mg_run_ends` for the
+//! line of want of memory.
 //! Not here: everything else.
 #![tactic(auto)]
 
 use mg_base::{StdSink, StdSource};
+use mg_commands::{ProgramCommand, read_command};
 use mg_device::FileDisk;
 use mg_model::Refusal;
 use mg_program::{Shelf, Status, mgdb};
@@ -29,6 +32,15 @@ fn given_words(rt: &HostRuntime) -> Result<Vec<String>, AllocError> {
     }
 }
 
+// The file that the words name. It is made and written by `run` alone; by any other words it is at most read.
+fn file_at(rt: HostRuntime, words: &[String], path: String) -> FileDisk<HostRuntime> {
+    let wanted = wanted_page(words);
+    match read_command(words) {
+        Some(ProgramCommand::Run(_)) => FileDisk::at(rt, path, wanted),
+        _ => FileDisk::to_look_at(rt, path, wanted),
+    }
+}
+
 // Runs the program over the real file and the real streams.
 fn program(rt: &HostRuntime) -> Result<Status, AllocError> {
     let words = given_words(rt)?;
@@ -37,7 +49,7 @@ fn program(rt: &HostRuntime) -> Result<Status, AllocError> {
         None => String::new(rt.alloc()),
     };
     let shelf = Shelf {
-        first: FileDisk::at(rt.clone()?, path, wanted_page(&words)),
+        first: file_at(rt.clone()?, &words, path),
         second: None,
     };
     let mut source = StdSource::new(rt.clone()?);

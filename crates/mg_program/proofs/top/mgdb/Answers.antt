@@ -1,23 +1,69 @@
+use Rattle.std.proofs.Common.{refl}
+use Rattle.mg_words.specs.Words.{texts}
+use Rattle.mg_commands.specs.declared.program.ProgramCommand.TheVariants.{ListLimbo, Run}
+use Rattle.mg_program.proofs.ListingLemmas.{asked_one, lists_one, listed_no_usage, listed_range}
 use Rattle.mg_program.proofs.TopLemmas.{never_usage, range_of}
 use Rattle.mg_program.proofs.top.mgdb.Goals as goal
 
-pub returns-clause-usage : goal.returns-clause-usage
-returns-clause-usage g c = (
+-- ---- no command line
+
+pub returns-in_default-clause-runs : goal.returns-in_default-clause-runs
+returns-in_default-clause-runs g c = λ asked is. absurd (c.in_default.ensures (Run asked, is))
+
+pub returns-in_default-clause-lists : goal.returns-in_default-clause-lists
+returns-in_default-clause-lists g c = λ is. absurd (c.in_default.ensures (ListLimbo, is))
+
+-- ---- a run
+
+pub returns-in-Run-clause-usage : goal.returns-in-Run-clause-usage
+returns-in-Run-clause-usage g c = (
   λ two. absurd (never_usage c.run_asked-end.result.0 c.status.result c.status.ensures two),
-  λ none. absurd (none c.in-Some.asked c.in-Some.ensures),
+  λ none. absurd (none (c.in-Some.command, c.in-Some.ensures)),
 )
 
-pub returns-clause-untouched : goal.returns-clause-untouched
-returns-clause-untouched g c = λ two. absurd (never_usage c.run_asked-end.result.0 c.status.result c.status.ensures two)
+pub returns-in-Run-clause-untouched : goal.returns-in-Run-clause-untouched
+returns-in-Run-clause-untouched g c = λ two. absurd (never_usage c.run_asked-end.result.0 c.status.result c.status.ensures two)
 
-pub returns-clause-runs : goal.returns-clause-runs
-returns-clause-runs g c = λ other. record {
-  asked = c.in-Some.asked;
-  is_run = c.in-Some.ensures;
+pub returns-in-Run-clause-runs : goal.returns-in-Run-clause-runs
+returns-in-Run-clause-runs g c = λ asked is. record {
+  asked = c.in-Run.asked;
+  is_run = asked_one (texts c.args.words.now) c.in-Some.command c.in-Run.asked c.in-Run.is c.in-Some.ensures;
   end = c.run_asked-end.result.0;
   status_is = c.status.ensures;
   runs = c.run_asked-end.ensures;
 }
 
+pub returns-in-Run-clause-lists : goal.returns-in-Run-clause-lists
+returns-in-Run-clause-lists g c = λ is. absurd (c.run_lines_list_none.ensures (texts c.args.words.now) c.in-Run.asked
+    (asked_one (texts c.args.words.now) c.in-Some.command c.in-Run.asked c.in-Run.is c.in-Some.ensures) is)
+
+pub returns-in-Run-clause-range : goal.returns-in-Run-clause-range
+returns-in-Run-clause-range g c = range_of c.run_asked-end.result.0 c.status.result c.status.ensures
+
+-- ---- a list
+
+pub returns-clause-usage : goal.returns-clause-usage
+returns-clause-usage g c = (
+  λ two. absurd (listed_no_usage c.list_limbo-end.result.0 c.status-in-ListLimbo.result c.status-in-ListLimbo.ensures two),
+  λ none. absurd (none (c.in-Some.command, c.in-Some.ensures)),
+)
+
+pub returns-clause-untouched : goal.returns-clause-untouched
+returns-clause-untouched g c =
+    λ two. absurd (listed_no_usage c.list_limbo-end.result.0 c.status-in-ListLimbo.result c.status-in-ListLimbo.ensures two)
+
+pub returns-clause-runs : goal.returns-clause-runs
+returns-clause-runs g c = λ asked is. absurd (c.run_lines_list_none.ensures (texts c.args.words.now) asked is
+    (lists_one (texts c.args.words.now) c.in-Some.command c.in-ListLimbo.is c.in-Some.ensures))
+
+pub returns-clause-lists : goal.returns-clause-lists
+returns-clause-lists g c = λ is. record {
+  source_stays = refl;
+  end = c.list_limbo-end.result.0;
+  status_is = c.status-in-ListLimbo.ensures;
+  lists = c.list_limbo-end.ensures;
+}
+
 pub returns-clause-range : goal.returns-clause-range
-returns-clause-range g c = range_of c.run_asked-end.result.0 c.status.result c.status.ensures
+returns-clause-range g c =
+    listed_range c.list_limbo-end.result.0 c.status-in-ListLimbo.result c.status-in-ListLimbo.ensures
