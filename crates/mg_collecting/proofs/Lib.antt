@@ -1,0 +1,9 @@
+mod ShownLemmas
+mod PartLemmas
+mod StandLemmas
+mod PassedLemmas
+mod CountLemmas
+mod EndLemmas
+mod WholeLemmas
+mod BatchLemmas
+mod TableLemmas

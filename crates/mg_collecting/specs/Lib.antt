@@ -1,0 +1,9 @@
+pub mod Remaining
+pub mod RemainingLaws
+pub mod NeededLaws
+pub mod Leaving
+pub mod LinkedLaws
+pub mod LeavingLaws
+pub mod Steps
+pub mod Collecting
+pub mod Passing
