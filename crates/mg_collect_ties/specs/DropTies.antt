@@ -1,5 +1,5 @@
 -- A version that is dropped right behind a committed one, in a batch of its own, keeps every overlay.
-use Rattle.std.proofs.Common.{◌≡◌, ◌≢◌, inl, inr, ap, sym, subst, ◌∙◌, refl, ℕ, ◌++◌, ◌∷◌, [], Bool, true, false, List, Option, None, Some}
+use Rattle.std.proofs.Common.{◌≡◌, ◌≢◌, inl, ap, sym, subst, ◌∙◌, refl, ℕ, ◌∷◌, [], Bool, true, false, List, Option, None, Some}
 use Rattle.mg_base.specs.Disk.{Meaning}
 use Rattle.mg_base.specs.Image.{Image}
 use Rattle.mg_base.specs.declared.numbers.RecId.{RecId}

@@ -3,9 +3,11 @@
 //! Owns: that a version which is dropped right behind a committed one, in a batch of its own (`DropsBehind` of
 //! `mg_chain`), keeps every overlay, whoever is chosen and whatever the history is (`DropKeeps`). What is asked of the
 //! record is said of each reading: it is one of a table, and has the version that leads past the dropped one, a
-//! committed one. That the dropped one stands right behind it follows from the cells.
+//! committed one. That the dropped one stands right behind it follows from the cells. And the same of a record's newest
+//! version that is taken out (`TakesOut`) by nobody's work: a dead transaction's, or a committed deletion that is the only
+//! one (`DeadKeeps`, `EraseKeeps`).
 //!
-//! All stands in `specs/`. There is no program here: the function does nothing, and its contract is the law.
+//! All stands in `specs/`. There is no program here: each function does nothing, and its contract is the law.
 //!
 //! Invariant: none, it keeps no state.
 //! Below: `mg_chain`, for the batch; `mg_ties`, for cells that are put and freed; `mg_collect_overlays`, for the law on
@@ -15,4 +17,4 @@
 
 mod laws;
 
-pub use laws::drops_keep;
+pub use laws::{drops_keep, takings_out_keep};
