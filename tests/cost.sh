@@ -42,6 +42,16 @@ puts() {
     fi
 }
 
+# Single new rows, each committed by itself.
+new_puts() {
+    if [ "$1" = ours ]; then
+        awk -v n="$2" 'BEGIN { for (i = 0; i < n; i++) print "@put", i, i }'
+    else
+        awk -v n="$2" 'BEGIN { print "CREATE TABLE KV (K INTEGER PRIMARY KEY, V INTEGER);"
+            for (i = 0; i < n; i++) print "INSERT INTO KV VALUES (" i ", " i ") ON CONFLICT (K) DO UPDATE SET V = excluded.V;" }'
+    fi
+}
+
 # Reads by key of a table of 100 rows, each in a transaction of its own.
 gets() {
     puts "$1" 100
@@ -152,10 +162,11 @@ printf '%-52s %6s %8s %8s %8s %8s %8s\n' load page size mgdb cpu sqlite3 cpu
 for twice in 1 2; do
     load 'rows put one by one, over 100 keys' puts $((10000 * twice))
     load 'reads by key, a table of 100 rows' gets $((10000 * twice))
-    load 'new rows, 1,000 a transaction' inserts $((1000 * twice))
-    load 'ten scans (with the rows put in)' scans $((1000 * twice))
-    load 'an UPDATE of all rows (with the rows put in)' updated $((1000 * twice))
-    load 'a DELETE of all rows (with the rows put in)' deleted $((1000 * twice))
+    load 'new rows put one by one' new_puts $((10000 * twice))
+    load 'new rows, 1,000 a transaction' inserts $((10000 * twice))
+    load 'ten scans (with the rows put in)' scans $((10000 * twice))
+    load 'an UPDATE of all rows (with the rows put in)' updated $((10000 * twice))
+    load 'a DELETE of all rows (with the rows put in)' deleted $((10000 * twice))
     load 'rows of 64 columns put in, and a scan' wide $((500 * twice))
     load 'tables made and taken back to a savepoint' taken_back $((16 * twice))
     load 'updates of one row under a held snapshot' updates $((2500 * twice))
