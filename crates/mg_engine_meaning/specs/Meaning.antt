@@ -5,6 +5,7 @@ use Rattle.mg_base.specs.Image.{Image}
 use Rattle.mg_base.specs.declared.numbers.RecId.{RecId}
 use Rattle.mg_base.specs.declared.transaction.TxState.TheVariants.{Active}
 use Rattle.mg_engine_steps.specs.Walking.{AreToCome, WalkPlace}
+use Rattle.mg_heap.specs.Walk.{is_primary}
 use Rattle.mg_image.specs.Form.{packed_form}
 use Rattle.mg_lasting.specs.Crashes.{HoldsFrom, asked}
 use Rattle.mg_model.specs.declared.opening.Opening.{Opening}
@@ -16,6 +17,8 @@ use Rattle.mg_pool.specs.Dirty.{is_marked}
 use Rattle.mg_pool.specs.Pool.{shown}
 use Rattle.mg_records.specs.Meaning.{Means}
 use Rattle.mg_records.specs.Needed.{with_room}
+use Rattle.mg_slots.specs.DataPage.{cell_of}
+use Rattle.mg_space.specs.View.{Tells}
 use Rattle.mg_engine_steps.specs.Standing.{Standing}
 use Rattle.mg_works.specs.Works.{MayBeGiven, Working, given_to, has_session, work_of}
 use Rattle.mg_core.specs.declared.parts.Core.{Core}
@@ -64,6 +67,11 @@ pub record ComesTo {D : Type 0} (m : Meaning D) (core : Core D) (t : ℕ) (table
   pub next : AreNext m core (standing_of core stands.numbers stands.tables) t table after rows
       core.store.offline
 
+-- where the pages are told, a slot is the primary one of a record
+abbrev pub HasRecordAt : {D : Type 0} → Meaning D → Core D → RecId → Type 0
+HasRecordAt m core rec = (image : Image) → Tells m core.store.disk image
+    → is_primary (cell_of (shown core.store.dirty image rec.page.0) rec.slot) ≡ true
+
 -- ---- sessions and commits
 
 -- an active transaction was begun by a session
@@ -87,6 +95,7 @@ means m places = record {
   works = λ core t session. WorksFor core t session;
   was_given = λ core table. MayBeGiven table;
   is_place = λ core table place. Unit {0};
+  has_record = λ core t table place. HasRecordAt m core (places.rec place);
   to_come = λ core t table after rows. ComesTo m core t table (place_at places after) rows;
   still = λ core t table after. rank_left places after;
   unwritten = λ core. min 512 (length core.store.dirty.pages);

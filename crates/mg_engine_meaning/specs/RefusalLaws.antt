@@ -32,7 +32,8 @@ use Rattle.mg_space.specs.View.{IsMissing, Tells}
 use Rattle.mg_space.specs.declared.fault.SpaceFault.TheVariants as faults
 use Rattle.mg_space.specs.declared.links.FireLinks.{FireLinks}
 use Rattle.mg_tip.specs.TipPage.{places, tip_checks}
-use Rattle.mg_txlist.specs.Refusals.{RefusesHead, RefusesTip, RefusesTips}
+use Rattle.mg_base.specs.declared.numbers.PageNo.{PageNo}
+use Rattle.mg_txlist.specs.Refusals.{RefusesHead, RefusesTip, RefusesTips, holder_of}
 use Rattle.mg_new_databases.specs.Data.{stand_on}
 use Rattle.mg_new_databases.specs.PageCellLaws.{new_have_tables}
 use Rattle.mg_new_databases.specs.PageLaws.{catalog_at}
@@ -164,14 +165,14 @@ module _ {D : Type 0} (m : Meaning D) (counted : AreCounted m) (walks : WalksMee
         (tip_before pages (header_of pages).last_tip.0 j) (last_sequence g.size pages - k))) there
         (readable.tips (last_sequence g.size pages - k) within))
 
-    tip_there : (n sequence : ℕ) → PassesAll (tip_checks (pages n) n sequence) → (damage : Damaged)
-        → RefusesTip m store g.limit pages sequence (record { 0 = n }) (faults.Damaged damage) → ⊥
-    tip_there n sequence passes damage (inl (none, same)) = not_both (pages 0)
+    tip_there : (n sequence : ℕ) → PassesAll (tip_checks (pages n) n sequence) → (holder : PageNo) (damage : Damaged)
+        → RefusesTip m store holder pages sequence (record { 0 = n }) (faults.Damaged damage) → ⊥
+    tip_there n sequence passes holder damage (inl (none, same)) = not_both (pages 0)
         (header_kind (pages 0) readable.fields)
         (ap (λ (p : ℕ). byte (pages p) 0) (sym none) ∙ tip_kind (pages n) n sequence passes)
-    tip_there n sequence passes damage (inr (some, inl (count, same, missing))) =
+    tip_there n sequence passes holder damage (inr (some, inl (count, same, missing))) =
         not_zero (pages n) g.size (missing_is_blank n count missing) (tip_kind (pages n) n sequence passes)
-    tip_there n sequence passes damage (inr (some, inr wrong)) =
+    tip_there n sequence passes holder damage (inr (some, inr wrong)) =
         let both : ◌≡◌ {A = Result (Unit {0}) Damaged} (Ok tt) (Err damage) =
         sym (verdict_from_passes (record { 0 = n }) (tip_checks (pages n) n sequence) passes) ∙ wrong in absurd cc
 
@@ -198,14 +199,15 @@ module _ {D : Type 0} (m : Meaning D) (counted : AreCounted m) (walks : WalksMee
     not_damaged _ (no_list it (inr (header, is, tips))) = by header (its_header header is) tips
       where
         each : (k : ℕ) → k < last_sequence g.size pages + 1
-            → RefusesTip m store g.limit pages ((last_sequence g.size pages + 1) - k - 1)
-            (record { 0 = tip_before pages (header_of pages).last_tip.0 k }) (faults.Damaged it) → ⊥
+            → RefusesTip m store (holder_of pages (header_of pages).last_tip.0 k) pages
+            ((last_sequence g.size pages + 1) - k - 1) (record { 0 = tip_before pages (header_of pages).last_tip.0 k }) (faults.Damaged it) → ⊥
         each k within tip = tip_there (tip_before pages (header_of pages).last_tip.0 k)
-            ((last_sequence g.size pages + 1) - k - 1) (tip_passes k within) it tip
+            ((last_sequence g.size pages + 1) - k - 1) (tip_passes k within)
+            (holder_of pages (header_of pages).last_tip.0 k) it tip
 
-        by : (h : Header) → header_of pages ≡ h → RefusesTips m store g.limit pages h.last_tip.0
+        by : (h : Header) → header_of pages ≡ h → RefusesTips m store pages h.last_tip.0
             ((h.next.0 - 1) / places g.size + 1) (faults.Damaged it) → ⊥
-        by h same = subst (λ (x : Header). RefusesTips m store g.limit pages x.last_tip.0
+        by h same = subst (λ (x : Header). RefusesTips m store pages x.last_tip.0
             ((x.next.0 - 1) / places g.size + 1) (faults.Damaged it) → ⊥) same
             (λ refuses. each refuses.0 refuses.1 refuses.2)
     not_damaged _ (no_catalog header is past) =

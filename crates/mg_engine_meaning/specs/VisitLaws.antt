@@ -1,5 +1,5 @@
 -- A walk visits the next record.
-use Rattle.std.proofs.Common.{◌≡◌, inl, inr, ◌<◌, ◌-◌, cond, ℕ, Bool, true, false, [], ◌∷◌, Option, None, Some, Result, Ok, Err, refl, sym, ap, ◌∙◌, subst, arith}
+use Rattle.std.proofs.Common.{◌≡◌, inl, inr, ◌<◌, ◌+◌, ◌-◌, cond, ℕ, Bool, true, false, [], ◌∷◌, Option, None, Some, Result, Ok, Err, refl, sym, ap, ◌∙◌, subst, arith}
 use Rattle.mg_base.specs.Disk.{Meaning}
 use Rattle.mg_base.specs.Image.{Image}
 use Rattle.mg_base.specs.declared.numbers.RecId.{RecId}
@@ -14,13 +14,17 @@ use Rattle.mg_records.specs.declared.found.Found.{Found}
 use Rattle.mg_records.specs.Crashing.{LeavesQuietly}
 use Rattle.mg_records.specs.Keeping.{Reads}
 use Rattle.mg_records.specs.Reading.{Nears, Visits, with_found}
+use Rattle.mg_heap.specs.Walk.{GivesAt, GivesNext, IsFirstRecord, is_primary}
 use Rattle.mg_image.specs.Form.{Pages, Row}
 use Rattle.mg_image.specs.Held.{told_row}
 use Rattle.mg_image.specs.Records.{key_of}
+use Rattle.mg_pool.specs.Dirty.{DirtyPages}
 use Rattle.mg_pool.specs.Pool.{shown}
 use Rattle.mg_seek.specs.Views.{IsVisit}
 use Rattle.mg_seek.specs.Walks.{keyed}
 use Rattle.mg_seek.specs.declared.views.Visit.{Visit}
+use Rattle.mg_slots.specs.DataPage.{cell_of}
+use Rattle.mg_space.specs.View.{KeepsStore}
 use Rattle.mg_txlist.specs.TxList.{said}
 use Rattle.mg_core.specs.declared.parts.Core.{Core}
 use Rattle.mg_core.specs.declared.scanning.Place.{Place}
@@ -30,7 +34,7 @@ use Rattle.mg_engine_steps.specs.Walking.{AreToCome, WalkPlace, WalksGoOn, place
 use Rattle.mg_engine_meaning.specs.FrameLaws.{sessions_of, works_same}
 use Rattle.mg_engine_meaning.specs.LawfulLaws.{memory_of}
 use Rattle.mg_engine_meaning.specs.Laws.{IsKeeper}
-use Rattle.mg_engine_meaning.specs.Meaning.{AreNext, ComesTo, Places, means, place_at, rank_left}
+use Rattle.mg_engine_meaning.specs.Meaning.{AreNext, ComesTo, HasRecordAt, Places, means, place_at, rank_left}
 use Rattle.mg_engine_meaning.specs.Standings.{standing_of}
 use Rattle.mg_engine_meaning.specs.StepLaws.{refused_none}
 use Rattle.mg_engine_meaning.specs.Steps.{AddsNone, ReadsGoOn}
@@ -50,6 +54,25 @@ found_row table None key rows apart is = ap (λ (k : Option (Value × Row)). wit
 found_row table (Some row) key rows apart is =
     ap (λ (x : Row). (key_of table row, x) ∷ rows) (told_plain table row apart)
     ∙ ap (λ (k : Option (Value × Row)). with_found k rows) (sym is)
+
+-- the record behind another one stands in a primary slot
+first_primary : (pages : Pages) (n from : ℕ) (x : RecId) → IsFirstRecord (pages n) n from x
+    → is_primary (cell_of (pages x.page.0) x.slot) ≡ true
+first_primary pages n from x is = subst (λ (p : ℕ). is_primary (cell_of (pages p) x.slot) ≡ true) (sym is.page) is.primary
+
+at_primary : (pages : Pages) (owner place : ℕ) (x : RecId) → GivesAt pages owner place (Some x)
+    → is_primary (cell_of (pages x.page.0) x.slot) ≡ true
+at_primary pages owner place x (page, finds, first) = first_primary pages page.0 0 x first
+
+found_primary : (pages : Pages) (owner : ℕ) (after : Option RecId) (x : RecId) → GivesNext pages owner after (Some x)
+    → is_primary (cell_of (pages x.page.0) x.slot) ≡ true
+found_primary pages owner None x gives = at_primary pages owner gives.place x gives.gives
+found_primary pages owner (Some former) x (inl (y, is, first)) =
+    let same : x ≡ y = cc in
+    subst (λ (r : RecId). is_primary (cell_of (pages r.page.0) r.slot) ≡ true) (sym same)
+    (first_primary pages former.page.0 (former.slot + 1) y first)
+found_primary pages owner (Some former) x (inr (none, behind)) =
+    at_primary pages owner behind.gives.place x behind.gives.gives
 
 module _ {D : Type 0} (m : Meaning D) (places : Places Place) (ranked : AreRanked places)
     (reads : ReadsGoOn D Place m) (keeper : IsKeeper m places) (go_on : WalksGoOn) (old : Core D) (t : TxNo) (table : Table)
@@ -82,10 +105,26 @@ module _ {D : Type 0} (m : Meaning D) (places : Places Place) (ranked : AreRanke
   -- ---- the end comes nearer
 
   nearer : (new : Core D) (found : Option (Found Place)) → GoesOn after found → IsInRank (Ok found)
+      → GivesFound m old t table after found → KeepsStore m old.store new.store
       → Nears (means m places) old new t.0 table after (Ok found)
-  nearer new None behind in_rank = tt
-  nearer new (Some found) behind in_rank = (tt, at after behind)
+  nearer new None behind in_rank gives keeps = tt
+  nearer new (Some found) behind in_rank gives keeps = (tt, at after behind, there)
     where
+      -- the pages are those that were read
+      there : HasRecordAt m new (places.rec found.place)
+      there image tells = subst (λ (r : RecId). is_primary (cell_of (shown new.store.dirty image r.page.0) r.slot) ≡ true)
+          (sym (ranked.rec found.place))
+          (subst (λ (d : DirtyPages). is_primary (cell_of (shown d image found.place.rec.page.0) found.place.rec.slot)
+          ≡ true) (sym keeps.dirty) (by (gives image (record {
+            told = sym keeps.disk.tells ∙ tells.told;
+            held = sym keeps.disk.held ∙ tells.held;
+          }))))
+        where
+          by : IsFound (said old.list) old.live t (shown old.store.dirty image) table after (Some found)
+              → is_primary (cell_of (shown old.store.dirty image found.place.rec.page.0) found.place.rec.slot) ≡ true
+          by (row, visit, key, sequence) =
+              found_primary (shown old.store.dirty image) table.pointer.0 (record_of after) found.place.rec visit.0
+
       at : (former : Option Place) → IsBehind former found.place
           → rank_left places (Some found.place) < rank_left places former
       at None behind_ = omega arith
@@ -163,7 +202,7 @@ module _ {D : Type 0} (m : Meaning D) (places : Places Place) (ranked : AreRanke
   goes new found in_rank is = subst (λ (c : Core D). VisitsRecord m places old c t.0 table after (Ok found))
       (sym is.same) (record {
         answers = λ o h stands. sym ((memory_of m old o h stands).state t.0) ∙ is.continues.1;
-        nears = nearer (record old { store = new.store }) found is.behind in_rank;
+        nears = nearer (record old { store = new.store }) found is.behind in_rank is.gives is.reads.keeps;
         visits = visits_next (record old { store = new.store }) is.continues (λ given place rows comes.
             (both None).0.walks_stay t.0 given place rows refl comes) found is.gives;
         reads = (both (Some t.0)).0;

@@ -73,7 +73,7 @@ fits_at (column ∷ columns) (value ∷ row) (suc place) fit below =
 
 -- ---- one write more
 
-fits_alone : (fits : Write → Type 0) (w : Write) → fits w → All fits (w ∷ [])
+pub fits_alone : (fits : Write → Type 0) (w : Write) → fits w → All fits (w ∷ [])
 fits_alone fits w is zero d below = is
 fits_alone fits w is (suc k) d below = absurd (omega (arith, below))
 

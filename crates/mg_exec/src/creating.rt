@@ -39,17 +39,19 @@ fn is_catalog(name: &Name) -> bool
 
 /// The shape that CREATE TABLE defines.
 fn shape_defined(alloc: Global, s: &Statement) -> Result<Shape, Memory>
-    requires { count_defined (plain_of s.now) ≤ MOST_COLUMNS }
+    requires creates { CreatesTable (plain_of s.now) }
+    requires few { count_defined (plain_of s.now) ≤ MOST_COLUMNS }
     ensures { IfOk result (λ shape. shape ≡ shape_said (columns_defined (plain_of s.now))) }
 {
     match s {
         Statement::Table { columns, .. } => shape_of(alloc, columns),
-        _ => Err(Memory),
+        _ => unreachable!(),
     }
 }
 
 /// The table that CREATE TABLE makes, for pages of `size` bytes.
 fn plan_table(alloc: Global, s: &Statement, name: &Name, size: u32) -> Result<NewTable, PlanFault>
+    requires { CreatesTable (plain_of s.now) }
     ensures { Plans (plain_of s.now) name.now size result }
 {
     match bind(alloc, s, None, size) {
@@ -71,6 +73,7 @@ fn plan<P: Drop>(
     name: &Name,
     size: u32,
 ) -> Result<Phase<P>, StatementFault>
+    requires { CreatesTable (plain_of s.now) }
     ensures { PlansPhase (plain_of s.now) name.now size result }
 {
     match plan_table(alloc, s, name, size) {

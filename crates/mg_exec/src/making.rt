@@ -1,7 +1,9 @@
 //! The writes that a statement makes of the rows that it found.
 
-ghost use Rattle.std.specs.Prelude.{◌≡◌, ◌<◌, ◌++◌, ◌∷◌, [], All, IfOk, MatchResult, OnOk, length, map, Ok};
+ghost use Rattle.std.specs.Prelude.{◌≡◌, ◌<◌, ◌++◌, ◌∷◌, [], All, IfOk, MatchResult, OnOk, length, map, Ok, true};
 ghost use Rattle.mg_expr.specs.Trees.{tree_of};
+ghost use Rattle.mg_expr.specs.Typing.{sort_of};
+ghost use Rattle.mg_plan.specs.Types.{fit_places};
 ghost use Rattle.mg_model.specs.Catalog.{key_of as key_of_row};
 ghost use Rattle.mg_records.specs.declared.write.Write.TheVariants as writes;
 ghost use Rattle.mg_records.specs.Writing.{FitsShape};
@@ -14,7 +16,7 @@ use mg_expr::Expr;
 use mg_model::Table;
 use mg_plan::Bound;
 use mg_records::Write;
-use mg_rows::{NewRowFault, insert_row, update_rows};
+use mg_rows::{NewRowFault, insert_row, new_rows_fit, update_rows};
 use mg_statements::{Assign, Statement};
 use mg_value::{Key, Row, Shape, row_fits};
 use std::alloc::Global;
@@ -36,17 +38,6 @@ fn key_of(alloc: Global, shape: &Shape, row: &Row) -> Result<Key, Memory>
         Some(key) => Ok(key),
         None => Err(Memory),
     }
-}
-
-/// The write that inserts a row.
-fn insertion(shape: &Shape, row: Row) -> Result<Write, Memory>
-    ensures is { IfOk result (λ write. write ≡ writes.Insert row) }
-    ensures fits { IfOk result (FitsShape shape.now) }
-{
-    if !row_fits(shape, &row) {
-        return Err(Memory);
-    }
-    Ok(Write::Insert(row))
 }
 
 /// The write by which the row with this row's key becomes this one.
@@ -84,12 +75,11 @@ fn push(list: &mut VecDeque<Write>, write: Write) -> Result<(), Memory>
 }
 
 /// The writes of an INSERT: its row is inserted.
-fn insertions(alloc: Global, shape: &Shape, row: Row) -> Result<VecDeque<Write>, Memory>
-    ensures is { IfOk result (λ made. made.items ≡ writes.Insert row ∷ []) }
-    ensures fits { IfOk result (λ made. All (FitsShape shape.now) made.items) }
+fn insertions(alloc: Global, row: Row) -> Result<VecDeque<Write>, Memory>
+    ensures { IfOk result (λ made. made.items ≡ writes.Insert row ∷ []) }
 {
     let mut made = VecDeque::new(alloc);
-    push(&mut made, insertion(shape, row)?)?;
+    push(&mut made, Write::Insert(row))?;
     Ok(made)
 }
 
@@ -118,20 +108,23 @@ fn erasures(alloc: Global, shape: &Shape, rows: &[Row]) -> Result<VecDeque<Write
 }
 
 /// The writes that an INSERT makes of its values.
+#[tactic(auto, using(crate::proofs::MakingLemmas::values_lengths, crate::proofs::MakingLemmas::fits_alone))]
 fn insert_values(
     alloc: Global,
     shape: &Shape,
     places: &[u16],
     values: &[Expr],
 ) -> Result<VecDeque<Write>, NewRowFault>
-    requires { length places.now ≡ length values.now }
+    requires { fit_places shape.now.columns places.now
+        (map (λ t. sort_of t []) (map tree_of values.now)) ≡ true }
     ensures { MatchResult result
         (λ made. AreMade (insertion_of (inserted shape.now.columns places.now (map tree_of values.now)))
         (FitsShape shape.now) made.items)
         (MakesNone (insertion_of (inserted shape.now.columns places.now (map tree_of values.now)))) }
 {
+    new_rows_fit();
     let row = insert_row(alloc, shape.columns.as_slice(), places, values)?;
-    Ok(insertions(alloc, shape, row)?)
+    Ok(insertions(alloc, row)?)
 }
 
 /// The writes that an UPDATE makes of the rows that it found. All new rows are computed before the

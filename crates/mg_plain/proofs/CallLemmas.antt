@@ -417,7 +417,7 @@ nears_found p t table after None is = tt
 nears_found p t table after (Some found) is =
     let place : found.place ≡ behind after + 1 = is.0 in
     let below : behind after < length (rows_seen (kept p) t table.name) = is.2 in
-    (tt, omega arith)
+    (tt, omega arith, (omega (arith, place), omega (arith, place, below)))
 
 -- ---- taking back
 

@@ -60,6 +60,7 @@ means = record {
   works = λ p t session. WorksFor (kept p) t session;
   was_given = λ p table. Unit {0};
   is_place = λ p table place. Unit {0};
+  has_record = λ p t table place. (0 < place) × (place ≤ length (rows_seen (kept p) t table.name));
   to_come = λ p t table after rows. rows ≡ drop (behind after) (rows_seen (kept p) t table.name);
   still = λ p t table after. length (rows_seen (kept p) t table.name) - behind after;
   unwritten = λ p. 0;

@@ -48,7 +48,7 @@ module _ {D S K : Type 0} (m : Meaning D) (s : SourceMeaning S) (n : SinkMeaning
   )
 
   pub served_files : (size : ℕ) (image : Image) → HoldsNoDatabase m old size image
-      → LeavesFile m n limit size image old new before after end
+      → LeavesFile m n size image old new before after end
   served_files size image other = inr (serves.other_files size image other)
 
 -- ---- a script that was not read to its end
@@ -137,5 +137,5 @@ module _ {D S K : Type 0} (m : Meaning D) (s : SourceMeaning S) (n : SinkMeaning
       → Promise m n size limit o script disk disk before after told
   unread_promise size limit o script = inl (record { ends = still.ends; disk = refl; last = says.printed })
 
-  pub unread_files : (limit size : ℕ) (image : Image) → LeavesFile m n limit size image disk disk before after told
-  unread_files limit size image = inl (record { ends = still.ends; disk = refl; last = says.printed })
+  pub unread_files : (size : ℕ) (image : Image) → LeavesFile m n size image disk disk before after told
+  unread_files size image = inl (record { ends = still.ends; disk = refl; last = says.printed })

@@ -201,15 +201,15 @@ module _ {D : Type 0} (m : Meaning D) (counts_to : ℕ) where
       unmakeable = other.unmakeable;
     }
 
-    file_of : (limit size : ℕ) (image : Image) (old new : Stopped D) (before after : K) (end : RunEnd)
-        → LeavesFile (stopped_meaning m counts_to) n limit size image old new before after end
-        → LeavesFile m n limit size image (inner_of old) (inner_of new) before after end
-    file_of limit size image old new before after end (inl unread) = inl (record {
+    file_of : (size : ℕ) (image : Image) (old new : Stopped D) (before after : K) (end : RunEnd)
+        → LeavesFile (stopped_meaning m counts_to) n size image old new before after end
+        → LeavesFile m n size image (inner_of old) (inner_of new) before after end
+    file_of size image old new before after end (inl unread) = inl (record {
       ends = unread.ends;
       disk = ap inner_of unread.disk;
       last = unread.last;
     })
-    file_of limit size image old new before after end (inr refused) = inr (record {
+    file_of size image old new before after end (inr refused) = inr (record {
       unwritten = record {
         held = refused.unwritten.held;
         crash = leaves old new (MayLeave m (inner_of old)) refused.unwritten.crash;
@@ -232,7 +232,7 @@ module _ {D : Type 0} (m : Meaning D) (counts_to : ℕ) where
           → IsEntry (stopped_meaning m counts_to) old limit size image o → s.left source ≡ Some script
           → Promise (stopped_meaning m counts_to) n size (limit_on limit image) o script old new sink sink' end)
           → ((size : ℕ) (image : Image) → HoldsNoDatabase (stopped_meaning m counts_to) old size image
-          → LeavesFile (stopped_meaning m counts_to) n limit size image old new sink sink' end)
+          → LeavesFile (stopped_meaning m counts_to) n size image old new sink sink' end)
           → Runs m counts_to s n limit (Some most) source source' first result sink sink' end
       runs_of_stopped limit most source source' first result old new sink sink' end newly is law same ends streams script
           headline files = subst (λ (d : D). Runs m counts_to s n limit (Some most) source source' first d sink sink' end)
@@ -258,6 +258,6 @@ module _ {D : Type 0} (m : Meaning D) (counts_to : ℕ) where
             };
             headline = λ size image o bytes entry left. promise_of size (limit_on limit image) o bytes old new sink sink' end entry.whole
                 (headline size image o bytes (entered old limit size image o entry) left);
-            other_files = λ size image other. file_of limit size image old new sink sink' end
+            other_files = λ size image other. file_of size image old new sink sink' end
                 (files size image (other_file old size image other));
           }

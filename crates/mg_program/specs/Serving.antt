@@ -36,7 +36,7 @@ pub record Serves {D K : Type 0} (m : Meaning D) (n : SinkMeaning K) (limit : �
   pub headline : (size : ℕ) (image : Image) (o : Opening) → IsEntry m old limit size image o
       → Headline m n size (limit_on limit image) o lines old new before after end
   pub other_files : (size : ℕ) (image : Image) → HoldsNoDatabase m old size image
-      → RefusesFile m n limit size image old new before after end
+      → RefusesFile m n size image old new before after end
 
 -- ---- lines on an engine
 

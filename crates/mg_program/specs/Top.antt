@@ -70,7 +70,7 @@ pub record Runs {D S K : Type 0} (m : Meaning D) (counts_to : ℕ) (s : SourceMe
       → s.left source ≡ Some script → Promise m n size (limit_on limit image) o script old new sink sink' end
   -- a file that holds no database is not written
   pub other_files : (size : ℕ) (image : Image) → HoldsNoDatabase m old size image
-      → LeavesFile m n limit size image old new sink sink' end
+      → LeavesFile m n size image old new sink sink' end
 
 -- The words are a command line; its run has ended, and the status tells how.
 pub record HasRun {D S K : Type 0} (m : Meaning D) (counts_to : ℕ) (s : SourceMeaning S) (n : SinkMeaning K)

@@ -39,7 +39,7 @@ pub fn run<D: Disk, S: Source, K: Sink>(
         → IsEntry D.meaning disk limit size image o → S.meaning.left source.old ≡ Some script
         → Promise D.meaning K.meaning size (limit_on limit image) o script disk result.1 sink.old sink.new result.0 }
     ensures other_files { (size : ℕ) (image : Image) → HoldsNoDatabase D.meaning disk size image
-        → LeavesFile D.meaning K.meaning limit size image disk result.1 sink.old sink.new result.0 }
+        → LeavesFile D.meaning K.meaning size image disk result.1 sink.old sink.new result.0 }
 {
     lines_of_scripts_can_be_obeyed();
     match read_lines(alloc, source) {

@@ -21,6 +21,7 @@ via m keeper knows = record {
   works = λ t. m.works (keeper t);
   was_given = λ t. m.was_given (keeper t);
   is_place = λ t. m.is_place (keeper t);
+  has_record = λ t. m.has_record (keeper t);
   to_come = λ t. m.to_come (keeper t);
   still = λ t. m.still (keeper t);
   unwritten = λ t. m.unwritten (keeper t);

@@ -21,6 +21,8 @@ pub record Means (R P : Type 0) : Type 1 where
   -- the rows of a table, with their keys, that a transaction still comes to behind a place, none for
   -- the beginning, in the order in which they are visited
   pub to_come : R → ℕ → Table → Option P → KeyedRows → Type 0
+  -- a record stands at this place, to which a transaction's walk over the table has come
+  pub has_record : R → ℕ → Table → P → Type 0
   -- a number that falls with each visit, so that a walk ends
   pub still : R → ℕ → Table → Option P → ℕ
   -- how many pages are changed and not written

@@ -95,6 +95,7 @@ with_room m = record {
   works = m.works;
   was_given = m.was_given;
   is_place = m.is_place;
+  has_record = m.has_record;
   to_come = m.to_come;
   still = m.still;
   unwritten = m.unwritten;

@@ -63,11 +63,12 @@ abbrev pub IsPlace : {R P : Type 0} → Means R P → R → Table → Option P �
 IsPlace m r table None = Unit {0}
 IsPlace m r table (Some place) = m.is_place r table place
 
--- a visit gives its place, and is nearer to the end
+-- a visit gives its place, at which a record stands, and is nearer to the end
 abbrev pub Nears : {R P : Type 0} → Means R P → R → R → ℕ → Table → Option P
     → Result (Option (Found P)) Refusal → Type 0
 Nears m old new t table after (Ok (Some found)) = m.is_place new table found.place
     × (m.still new t table (Some found.place) < m.still old t table after)
+    × m.has_record new t table found.place
 Nears m old new t table after (Ok None) = Unit {0}
 Nears m old new t table after (Err r) = Unit {0}
 

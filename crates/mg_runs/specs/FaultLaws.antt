@@ -29,7 +29,6 @@ use Rattle.mg_pool.specs.declared.fault.PoolFault.TheVariants as faults
 use Rattle.mg_space.specs.View.{Tells}
 use Rattle.mg_space.specs.declared.fault.SpaceFault.TheVariants as space
 use Rattle.mg_space.specs.declared.links.FireLinks.{FireLinks}
-use Rattle.mg_survey.specs.Survey.{limit_of}
 use Rattle.mg_sessions.specs.Accounts.{Accounts}
 use Rattle.mg_run_ends.specs.Ends.{FailsWith}
 use Rattle.mg_runs.specs.FileDamage.{IsFileDamage}
@@ -162,20 +161,16 @@ module _ {D : Type 0} (m : Meaning D) (disk new : D) (limit : ℕ) (refusal : Re
     -- the damage is one of the image's pages
     damage_told : (before after : Pool D FireLinks) → new ≡ after.disk → (prepared : IsPrepared m disk limit before)
         → (it : Damaged) → IsLoadDamage m after before.geometry (shown before.dirty image) it
-        → IsFileDamage (m.count new) size (limit_of limit (length image)) (page_at size image) it
+        → IsFileDamage (m.count new) size (page_at size image) it
     damage_told before after is_disk prepared it wrong =
-        subst (λ (d : D). IsFileDamage (m.count d) size (limit_of limit (length image)) (page_at size image) it)
-        (sym is_disk)
-        (subst (λ (most : ℕ). IsFileDamage (m.count after.disk) size most (page_at size image) it)
-        (prepared.limit_is image other.tells.held)
-        (subst (λ (s : ℕ). IsFileDamage (m.count after.disk) s before.geometry.limit (page_at size image) it)
-        (same_size before prepared)
-        (subst (λ (ps : Pages). IsFileDamage (m.count after.disk) before.geometry.size before.geometry.limit ps it)
-        (fun_ext (shows before prepared)) (file_damage m after before.geometry (shown before.dirty image) it wrong))))
+        subst (λ (d : D). IsFileDamage (m.count d) size (page_at size image) it) (sym is_disk)
+        (subst (λ (s : ℕ). IsFileDamage (m.count after.disk) s (page_at size image) it) (same_size before prepared)
+        (subst (λ (ps : Pages). IsFileDamage (m.count after.disk) before.geometry.size ps it)
+        (fun_ext (shows before prepared)) (file_damage m after before.geometry (shown before.dirty image) it wrong)))
 
     unread_file : (fault : OpenFault) → FailsToRead m disk new limit fault → IsOpenRefusal fault refusal
-        → IsOpeningRefusal (m.count new) limit size image refusal
-    unread_file (NotADatabase field found) fails is = subst (IsOpeningRefusal (m.count new) limit size image) (sym is)
+        → IsOpeningRefusal (m.count new) size image refusal
+    unread_file (NotADatabase field found) fails is = subst (IsOpeningRefusal (m.count new) size image) (sym is)
         (subst (λ (bytes : List ℕ). reading bytes size ≡ Err (heads.NotADatabase field found))
         (shows fails.before fails.prepared 0)
         (subst (λ (n : ℕ). reading (shown fails.before.dirty image 0) n ≡ Err (heads.NotADatabase field found))
@@ -185,24 +180,24 @@ module _ {D : Type 0} (m : Meaning D) (disk new : D) (limit : ℕ) (refusal : Re
     unread_file (Space (space.Full most)) fails is =
         absurd (fails.why image (still_tells fails.before fails.prepared fails.before.geometry.size
         (same_size fails.before fails.prepared) fails.prepared.disk_is))
-    unread_file (Space (space.Damaged damage)) fails is = subst (IsOpeningRefusal (m.count new) limit size image) (sym is)
+    unread_file (Space (space.Damaged damage)) fails is = subst (IsOpeningRefusal (m.count new) size image) (sym is)
         (damage_told fails.before fails.after fails.is_disk fails.prepared damage
         (fails.why image (still_tells fails.before fails.prepared fails.before.geometry.size
         (same_size fails.before fails.prepared) fails.prepared.disk_is)))
-    unread_file (Space (space.Pool (faults.DiskRead count))) fails is = subst (IsOpeningRefusal (m.count new) limit size image) (sym is) tt
+    unread_file (Space (space.Pool (faults.DiskRead count))) fails is = subst (IsOpeningRefusal (m.count new) size image) (sym is) tt
     unread_file (Space (space.Pool (faults.DiskWrite count))) fails is = absurd fails.own
     unread_file (Space (space.Pool (faults.Offline count))) fails is =
         absurd (no_count fails.before.offline count fails.prepared.online fails.told.0)
     unread_file (Space (space.Pool (faults.Absent pages))) fails is = absurd fails.own
-    unread_file (Space (space.Pool faults.Memory)) fails is = subst (IsOpeningRefusal (m.count new) limit size image) (sym is) tt
+    unread_file (Space (space.Pool faults.Memory)) fails is = subst (IsOpeningRefusal (m.count new) size image) (sym is) tt
 
     unprepared_file : (fault : OpenFault) → FailsToPrepare m disk new fault → IsOpenRefusal fault refusal
-        → IsOpeningRefusal (m.count new) limit size image refusal
-    unprepared_file _ (unasked count keeps same rose) is = subst (IsOpeningRefusal (m.count new) limit size image) (sym is) tt
-    unprepared_file _ (no_memory keeps same steady) is = subst (IsOpeningRefusal (m.count new) limit size image) (sym is) tt
-    unprepared_file _ (unmade count fails) is = subst (IsOpeningRefusal (m.count new) limit size image) (sym is) tt
+        → IsOpeningRefusal (m.count new) size image refusal
+    unprepared_file _ (unasked count keeps same rose) is = subst (IsOpeningRefusal (m.count new) size image) (sym is) tt
+    unprepared_file _ (no_memory keeps same steady) is = subst (IsOpeningRefusal (m.count new) size image) (sym is) tt
+    unprepared_file _ (unmade count fails) is = subst (IsOpeningRefusal (m.count new) size image) (sym is) tt
 
-    pub refusal_of_file : RefusesOpen m disk new limit refusal → IsOpeningRefusal (m.count new) limit size image refusal
+    pub refusal_of_file : RefusesOpen m disk new limit refusal → IsOpeningRefusal (m.count new) size image refusal
     refusal_of_file (unprepared fault is fails) = unprepared_file fault fails is
     refusal_of_file (unread fault is fails) = unread_file fault fails is
 

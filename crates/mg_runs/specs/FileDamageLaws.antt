@@ -16,12 +16,12 @@ use Rattle.mg_image.specs.Inventory.{tip_before}
 use Rattle.mg_pool.specs.declared.pool.Pool.{Pool}
 use Rattle.mg_space.specs.declared.fault.SpaceFault.TheVariants as space
 use Rattle.mg_space.specs.declared.links.FireLinks.{FireLinks}
-use Rattle.mg_txlist.specs.Refusals.{RefusesHead, RefusesLoad, RefusesTip}
+use Rattle.mg_txlist.specs.Refusals.{RefusesHead, RefusesLoad, RefusesTip, holder_of}
 use Rattle.mg_runs.specs.FileDamage.{IsFileDamage, absent, no_catalog, no_head, no_tip, other_data, other_pointers, other_tip, tips_said}
 
 module _ {D : Type 0} (m : Meaning D) (store : Pool D FireLinks) (g : Geometry) (pages : Pages) where
   abbrev Damages : Damaged → Type 0
-  Damages it = IsFileDamage (m.count store.disk) g.size g.limit pages it
+  Damages it = IsFileDamage (m.count store.disk) g.size pages it
 
   by_absence : (page : PageNo) (it : Damaged) → IsAbsence m store [] page it → Damages it
   by_absence page it (count, is, missing) = subst Damages (sym is) (absent page count missing.count_is missing.past)
@@ -32,7 +32,7 @@ module _ {D : Type 0} (m : Meaning D) (store : Pool D FireLinks) (g : Geometry) 
   by_head it (inr (fault, reads, is)) = subst Damages (sym is) (no_head fault reads)
 
   by_tip : (header : Header) (k : ℕ) (it : Damaged) → reading (pages 0) g.size ≡ Ok header → k < tips_said g.size header
-      → RefusesTip m store g.limit pages (tips_said g.size header - k - 1)
+      → RefusesTip m store (holder_of pages header.last_tip.0 k) pages (tips_said g.size header - k - 1)
       (record { 0 = tip_before pages header.last_tip.0 k }) (space.Damaged it) → Damages it
   by_tip header k it reads few (inl (zero_, is)) = subst Damages (sym is) (no_tip header k reads few zero_)
   by_tip header k it reads few (inr (some, inl (count, is, missing))) = subst Damages (sym is)

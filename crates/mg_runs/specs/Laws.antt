@@ -53,7 +53,7 @@ abbrev pub OtherFilesAreRefused : {D K : Type 0} → Meaning D → SinkMeaning K
 OtherFilesAreRefused {D} {K} m n = (disk new : D) (limit : ℕ) (refusal : Refusal) (size : ℕ) (image : Image)
     (end : RunEnd) (before after : K) → HoldsNoDatabase m disk size image → RefusesOpening m disk new limit refusal
     → IsOutside refusal end → IsPrinted n before after (last_line end)
-    → RefusesFile m n limit size image disk new before after end
+    → RefusesFile m n size image disk new before after end
 
 -- and never opened
 abbrev pub OtherFilesAreUnopened : {D : Type 0} → Meaning D → Type 0

@@ -1,5 +1,5 @@
 -- A run over a file that holds no database: it is refused, and not written.
-use Rattle.std.specs.Prelude.{◌≡◌, ℕ, List, length, Option, Some, Ok, Err}
+use Rattle.std.specs.Prelude.{◌≡◌, ℕ, List, Option, Some, Ok, Err}
 use Rattle.mg_base.specs.Disk.{MayLeave, Meaning}
 use Rattle.mg_base.specs.Image.{Image, page_at}
 use Rattle.mg_base.specs.Moments.{LeavesOnly}
@@ -16,7 +16,6 @@ use Rattle.mg_run_ends.specs.Ends.{IsOutside, last_line}
 use Rattle.mg_run_ends.specs.Printing.{IsPrinted}
 use Rattle.mg_run_ends.specs.declared.ending.RunEnd.{RunEnd}
 use Rattle.mg_space.specs.View.{Tells}
-use Rattle.mg_survey.specs.Survey.{limit_of}
 use Rattle.mg_runs.specs.FileDamage.{IsFileDamage}
 use Rattle.mg_runs.specs.Headline.{IsOpeningFault}
 
@@ -42,22 +41,22 @@ pub record HoldsNoDatabase {D : Type 0} (m : Meaning D) (disk : D) (size : ℕ) 
   pub unpassed : PassesOpening size image → ⊥
   pub unmakeable : IsUnmadeImage size image → ⊥
 
--- An opening of a file of so many pages, by a page limit, refuses so: page 0 is none of a database, in the field that is
+-- An opening of a file of so many pages refuses so: page 0 is none of a database, in the field that is
 -- told; a page is damaged, in that field; the disk fails, or memory is short.
-abbrev pub IsOpeningRefusal : Option ℕ → ℕ → ℕ → Image → Refusal → Type 0
-IsOpeningRefusal count limit size image (NotADatabase field found) =
+abbrev pub IsOpeningRefusal : Option ℕ → ℕ → Image → Refusal → Type 0
+IsOpeningRefusal count size image (NotADatabase field found) =
     reading (page_at size image 0) size ≡ Err (heads.NotADatabase field found)
-IsOpeningRefusal count limit size image (Damaged page field found wanted) =
-    IsFileDamage count size (limit_of limit (length image)) (page_at size image)
+IsOpeningRefusal count size image (Damaged page field found wanted) =
+    IsFileDamage count size (page_at size image)
     (record { page = page; field = field; found = found; wanted = wanted })
-IsOpeningRefusal count limit size image refusal = IsOpeningFault refusal
+IsOpeningRefusal count size image refusal = IsOpeningFault refusal
 
 -- The opening of such a disk was refused: it was not written, and the run has ended by that refusal, whose line was put
 -- into the sink.
-pub record RefusesFile {D K : Type 0} (m : Meaning D) (n : SinkMeaning K) (limit size : ℕ) (image : Image)
+pub record RefusesFile {D K : Type 0} (m : Meaning D) (n : SinkMeaning K) (size : ℕ) (image : Image)
     (old new : D) (before after : K) (end : RunEnd) : Type 0 where
   pub unwritten : IsUnwritten m old new
   pub refusal : Refusal
-  pub opening : IsOpeningRefusal (m.count new) limit size image refusal
+  pub opening : IsOpeningRefusal (m.count new) size image refusal
   pub ends : IsOutside refusal end
   pub last : IsPrinted n before after (last_line end)

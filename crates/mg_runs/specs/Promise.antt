@@ -35,9 +35,9 @@ Promise m n size limit o script old new before after end = IsUnread n old new be
     ⊎ ((lines : List Line) × IsScript script lines × Headline m n size limit o lines old new before after end)
 
 -- Over a file that holds no database the script was not read to its end; or it was, and the file is refused.
-abbrev pub LeavesFile : {D K : Type 0} → Meaning D → SinkMeaning K → ℕ → ℕ → Image → D → D → K → K → RunEnd → Type 0
-LeavesFile m n limit size image old new before after end = IsUnread n old new before after end
-    ⊎ RefusesFile m n limit size image old new before after end
+abbrev pub LeavesFile : {D K : Type 0} → Meaning D → SinkMeaning K → ℕ → Image → D → D → K → K → RunEnd → Type 0
+LeavesFile m n size image old new before after end = IsUnread n old new before after end
+    ⊎ RefusesFile m n size image old new before after end
 
 -- ---- causes, over any disk and any streams
 

@@ -23,7 +23,7 @@ use Rattle.mg_space.specs.ViewLaws.{tells_on, viewed_on}
 use Rattle.mg_space.specs.declared.fault.SpaceFault.{SpaceFault}
 use Rattle.mg_space.specs.declared.fault.SpaceFault.TheVariants as faults
 use Rattle.mg_tip.specs.TipPage.{places, prev_in, tip_checks}
-use Rattle.mg_txlist.specs.Refusals.{LacksHead, RefusesDraw, RefusesHead, RefusesLoad, RefusesTip, RefusesTips, head_damage}
+use Rattle.mg_txlist.specs.Refusals.{LacksHead, RefusesDraw, RefusesHead, RefusesLoad, RefusesTip, RefusesTips, head_damage, holder_of}
 use Rattle.mg_txlist.proofs.DrawLemmas.{empty_view}
 
 -- a fault that is handed on has the cause that it had
@@ -101,53 +101,55 @@ lacks_draw m store g t pages fault lacks =
 -- ---- the chain
 
 -- a page that was read and tested is told as damaged
-pub tip_read : {D L : Type 0} (T : Type 0) (m : Meaning D) (store : Pool D L) (limit : ℕ) (pages : Pages)
+pub tip_read : {D L : Type 0} (T : Type 0) (m : Meaning D) (store : Pool D L) (holder : PageNo) (pages : Pages)
     (batch : List BatchPage) (sequence : ℕ) (n : PageNo) (fault : SpaceFault) → n.0 ≢ 0
-    → RefusesRead {T = T} m store batch n (Err fault) → RefusesTip m store limit pages sequence n fault
-tip_read T m store limit pages batch sequence n (faults.Full most) some refused = refused
-tip_read T m store limit pages batch sequence n (faults.Damaged damage) some refused =
+    → RefusesRead {T = T} m store batch n (Err fault) → RefusesTip m store holder pages sequence n fault
+tip_read T m store holder pages batch sequence n (faults.Full most) some refused = refused
+tip_read T m store holder pages batch sequence n (faults.Damaged damage) some refused =
     inr (some, inl (refused.0, refused.1, missing_any m store batch n.0 refused.0 refused.2))
-tip_read T m store limit pages batch sequence n (faults.Pool fault) some refused = tt
+tip_read T m store holder pages batch sequence n (faults.Pool fault) some refused = tt
 
-pub tip_differs : {D L : Type 0} (m : Meaning D) (store : Pool D L) (limit : ℕ) (pages : Pages)
+pub tip_differs : {D L : Type 0} (m : Meaning D) (store : Pool D L) (holder : PageNo) (pages : Pages)
     (sequence : ℕ) (n : PageNo) (read seen : List ℕ) (answer : Result (Unit {0}) Damaged)
     (damage : Damaged) → n.0 ≢ 0 → read ≡ seen → seen ≡ pages n.0
     → answer ≡ verdict n (tip_checks read n.0 sequence) → answer ≡ Err damage
-    → RefusesTip m store limit pages sequence n (faults.Damaged damage)
-tip_differs m store limit pages sequence n read seen answer damage some same is verdict_is was =
+    → RefusesTip m store holder pages sequence n (faults.Damaged damage)
+tip_differs m store holder pages sequence n read seen answer damage some same is verdict_is was =
     inr (
       some,
       inr (subst (λ (b : List ℕ). verdict n (tip_checks b n.0 sequence) ≡ Err damage)
           (same ∙ is) (sym verdict_is ∙ was)),
     )
 
-tips_from : {D L : Type 0} (m : Meaning D) (store : Pool D L) (limit : ℕ) (pages : Pages)
-    (last count k : ℕ) (n : PageNo) (fault : SpaceFault) → k < count
-    → n.0 ≡ tip_before pages last k
-    → RefusesTip m store limit pages (count - k - 1) n fault
-    → RefusesTips m store limit pages last count fault
-tips_from m store limit pages last count k n (faults.Full most) inside is refused = refused
-tips_from m store limit pages last count k n (faults.Damaged damage) inside is refused = (
+tips_from : {D L : Type 0} (m : Meaning D) (store : Pool D L) (pages : Pages) (last count k : ℕ) (holder n : PageNo)
+    (fault : SpaceFault) → k < count → holder ≡ holder_of pages last k → n.0 ≡ tip_before pages last k
+    → RefusesTip m store holder pages (count - k - 1) n fault → RefusesTips m store pages last count fault
+tips_from m store pages last count k holder n (faults.Full most) inside held is refused = refused
+tips_from m store pages last count k holder n (faults.Damaged damage) inside held is refused = (
   k,
   inside,
-  subst (λ (x : ℕ). RefusesTip m store limit pages (count - k - 1) (record { 0 = x })
-      (faults.Damaged damage)) is refused,
+  subst (λ (x : ℕ). RefusesTip m store (holder_of pages last k) pages (count - k - 1) (record { 0 = x })
+      (faults.Damaged damage)) is
+      (subst (λ (p : PageNo). RefusesTip m store p pages (count - k - 1) n (faults.Damaged damage)) held refused),
 )
-tips_from m store limit pages last count k n (faults.Pool fault) inside is refused = tt
+tips_from m store pages last count k holder n (faults.Pool fault) inside held is refused = tt
 
 -- a page of the chain is not read, after others were
 pub tips_refused : {D L : Type 0} (m : Meaning D) (start mid store : Pool D L) (image : Image)
-    (last count k : ℕ) (n : PageNo) (fault : SpaceFault) → KeepsStore m start mid
-    → Tells m start.disk image → k < count → n.0 ≡ tip_before (shown start.dirty image) last k
-    → (Tells m mid.disk image → RefusesTip m store mid.geometry.limit (shown mid.dirty image)
-    (count - k - 1) n fault)
-    → RefusesTips m store start.geometry.limit (shown start.dirty image) last count fault
-tips_refused m start mid store image last count k n fault kept tells inside is refused =
-    tips_from m store start.geometry.limit (shown start.dirty image) last count k n fault inside is
-    (subst (λ (d : DirtyPages). RefusesTip m store start.geometry.limit (shown d image) (count - k - 1) n
-    fault) kept.dirty
-    (subst (λ (g : Geometry). RefusesTip m store g.limit (shown mid.dirty image) (count - k - 1) n fault)
-    kept.geometry (refused (tells_on m start mid image kept tells))))
+    (last count k : ℕ) (holder n : PageNo) (fault : SpaceFault) → KeepsStore m start mid
+    → Tells m start.disk image → k < count → holder ≡ holder_of (shown start.dirty image) last k
+    → n.0 ≡ tip_before (shown start.dirty image) last k
+    → (Tells m mid.disk image → RefusesTip m store holder (shown mid.dirty image) (count - k - 1) n fault)
+    → RefusesTips m store (shown start.dirty image) last count fault
+tips_refused m start mid store image last count k holder n fault kept tells inside held is refused =
+    tips_from m store (shown start.dirty image) last count k holder n fault inside held is
+    (subst (λ (d : DirtyPages). RefusesTip m store holder (shown d image) (count - k - 1) n fault) kept.dirty
+    (refused (tells_on m start mid image kept tells)))
+
+-- the page that was read names the next one
+pub holder_on : (pages : Pages) (last k : ℕ) (at : PageNo) → at.0 ≡ tip_before pages last k
+    → at ≡ holder_of pages last (k + 1)
+holder_on pages last k at is = rw (add-one k) (ap (λ (n : ℕ). record { 0 = n }) is)
 
 -- the page before the one that was read is one further back
 pub one_back : (pages : Pages) (last k at prev : ℕ) (read seen : List ℕ) → at ≡ tip_before pages last k
@@ -159,19 +161,16 @@ pub load_refused : {D L : Type 0} (m : Meaning D) (start mid store : Pool D L) (
     (made : Geometry) (k : ℕ) (fault : SpaceFault) → KeepsStore m start mid → Tells m start.disk image
     → made ≡ mid.geometry → k ≡ places made.size
     → reading (shown start.dirty image 0) start.geometry.size ≡ Ok h
-    → (Tells m mid.disk image → RefusesTips m store mid.geometry.limit (shown mid.dirty image)
-    h.last_tip.0 ((h.next.0 - 1) / k + 1) fault)
+    → (Tells m mid.disk image → RefusesTips m store (shown mid.dirty image) h.last_tip.0 ((h.next.0 - 1) / k + 1) fault)
     → RefusesLoad m store start.geometry (shown start.dirty image) fault
 load_refused m start mid store image h made k fault kept tells made_is k_is reads refused =
-    of fault (subst (λ (d : DirtyPages). RefusesTips m store start.geometry.limit (shown d image)
+    of fault (subst (λ (d : DirtyPages). RefusesTips m store (shown d image)
     h.last_tip.0 ((h.next.0 - 1) / places start.geometry.size + 1) fault) kept.dirty
-    (subst (λ (g : Geometry). RefusesTips m store g.limit (shown mid.dirty image) h.last_tip.0
-    ((h.next.0 - 1) / places g.size + 1) fault) kept.geometry
-    (subst (λ (n : ℕ). RefusesTips m store mid.geometry.limit (shown mid.dirty image) h.last_tip.0
-    ((h.next.0 - 1) / n + 1) fault) (k_is ∙ ap (λ (g : Geometry). places g.size) made_is)
-    (refused (tells_on m start mid image kept tells)))))
+    (subst (λ (n : ℕ). RefusesTips m store (shown mid.dirty image) h.last_tip.0 ((h.next.0 - 1) / n + 1) fault)
+    (k_is ∙ ap (λ (g : Geometry). places g.size) (made_is ∙ kept.geometry))
+    (refused (tells_on m start mid image kept tells))))
   where
-    of : (f : SpaceFault) → RefusesTips m store start.geometry.limit (shown start.dirty image)
+    of : (f : SpaceFault) → RefusesTips m store (shown start.dirty image)
         h.last_tip.0 ((h.next.0 - 1) / places start.geometry.size + 1) f
         → RefusesLoad m store start.geometry (shown start.dirty image) f
     of (faults.Full limit) tips = tips

@@ -1,12 +1,13 @@
 -- Why a list is not loaded, or no number drawn: what the header page, a transaction inventory page or a
 -- page inventory page shows, or that no page is free.
-use Rattle.std.specs.Prelude.{◌≡◌, ◌≢◌, ◌⊎◌, ◌<◌, ◌+◌, ◌-◌, ◌/◌, ◌%◌, ℕ, List, [], Ok, Err}
+use Rattle.std.specs.Prelude.{◌≡◌, ◌≢◌, ◌⊎◌, ◌<◌, ◌+◌, ◌-◌, ◌/◌, ◌%◌, ℕ, suc, zero, List, [], Ok, Err}
 use Rattle.mg_base.specs.Checks.{verdict}
 use Rattle.mg_base.specs.Disk.{Meaning}
 use Rattle.mg_base.specs.declared.damage.Damaged.{Damaged}
 use Rattle.mg_base.specs.declared.damage.Field.{Field}
 use Rattle.mg_base.specs.declared.damage.Field.TheVariants.{Link, Magic, Major, Minor, Next}
 use Rattle.mg_base.specs.declared.geometry.Geometry.{Geometry}
+use Rattle.mg_base.specs.declared.geometry.TheConstants.{GREATEST_LIMIT}
 use Rattle.mg_base.specs.declared.numbers.PageNo.{PageNo}
 use Rattle.mg_header.specs.HeaderPage.{reading, the_page}
 use Rattle.mg_header.specs.declared.header.HeadFault.{HeadFault}
@@ -50,29 +51,33 @@ RefusesHead m store size b (faults.Damaged damage) = LacksHead m store (faults.D
     ⊎ ((fault : HeadFault) × (reading b size ≡ Err fault) × (damage ≡ head_damage size fault))
 RefusesHead m store size b (faults.Pool fault) = Unit {0}
 
--- the damage of a link of the chain that leads to the header page
-abbrev pub link_to_head : ℕ → Damaged
-link_to_head limit = record { page = the_page; field = Link; found = 0; wanted = limit }
+-- the page that names the one so many back: the header page, or the one behind it
+abbrev pub holder_of : Pages → ℕ → ℕ → PageNo
+holder_of pages last zero = the_page
+holder_of pages last (suc k) = record { 0 = tip_before pages last k }
 
--- why a page is not read as the transaction inventory page of a sequence, but for faults of the cache:
--- it is the header page, it is missing, or a field of it differs
-abbrev pub RefusesTip : {D L : Type 0} → Meaning D → Pool D L → ℕ → Pages → ℕ → PageNo → SpaceFault
+-- the damage of a link of the chain that leads to the header page, at the page that has it
+abbrev pub link_to_head : PageNo → Damaged
+link_to_head holder = record { page = holder; field = Link; found = 0; wanted = GREATEST_LIMIT - 1 }
+
+-- why a page that another one names is not read as the transaction inventory page of a sequence, but for faults of the
+-- cache: it is the header page, it is missing, or a field of it differs
+abbrev pub RefusesTip : {D L : Type 0} → Meaning D → Pool D L → PageNo → Pages → ℕ → PageNo → SpaceFault
     → Type 0
-RefusesTip m store limit pages sequence n (faults.Full most) = ⊥
-RefusesTip m store limit pages sequence n (faults.Damaged damage) =
-    ((n.0 ≡ 0) × (damage ≡ link_to_head limit))
+RefusesTip m store holder pages sequence n (faults.Full most) = ⊥
+RefusesTip m store holder pages sequence n (faults.Damaged damage) =
+    ((n.0 ≡ 0) × (damage ≡ link_to_head holder))
     ⊎ ((n.0 ≢ 0) × (((count : ℕ) × (damage ≡ absence n count) × IsMissing m store [] n.0 count)
     ⊎ (verdict n (tip_checks (pages n.0) n.0 sequence) ≡ Err damage)))
-RefusesTip m store limit pages sequence n (faults.Pool fault) = Unit {0}
+RefusesTip m store holder pages sequence n (faults.Pool fault) = Unit {0}
 
 -- why so many transaction inventory pages, from one back, are not read: one of them is not
-abbrev pub RefusesTips : {D L : Type 0} → Meaning D → Pool D L → ℕ → Pages → ℕ → ℕ → SpaceFault
-    → Type 0
-RefusesTips m store limit pages last count (faults.Full most) = ⊥
-RefusesTips m store limit pages last count (faults.Damaged damage) = (k : ℕ) × (k < count)
-    × RefusesTip m store limit pages (count - k - 1) (record { 0 = tip_before pages last k })
+abbrev pub RefusesTips : {D L : Type 0} → Meaning D → Pool D L → Pages → ℕ → ℕ → SpaceFault → Type 0
+RefusesTips m store pages last count (faults.Full most) = ⊥
+RefusesTips m store pages last count (faults.Damaged damage) = (k : ℕ) × (k < count)
+    × RefusesTip m store (holder_of pages last k) pages (count - k - 1) (record { 0 = tip_before pages last k })
     (faults.Damaged damage)
-RefusesTips m store limit pages last count (faults.Pool fault) = Unit {0}
+RefusesTips m store pages last count (faults.Pool fault) = Unit {0}
 
 -- why the list is not loaded: the header is not read, or the pages of the numbers that it says are not
 abbrev pub RefusesLoad : {D L : Type 0} → Meaning D → Pool D L → Geometry → Pages → SpaceFault → Type 0
@@ -80,7 +85,7 @@ RefusesLoad m store g pages (faults.Full limit) = ⊥
 RefusesLoad m store g pages (faults.Damaged damage) =
     RefusesHead m store g.size (pages 0) (faults.Damaged damage)
     ⊎ ((header : Header) × (reading (pages 0) g.size ≡ Ok header)
-    × RefusesTips m store g.limit pages header.last_tip.0
+    × RefusesTips m store pages header.last_tip.0
     ((header.next.0 - 1) / places g.size + 1) (faults.Damaged damage))
 RefusesLoad m store g pages (faults.Pool fault) = Unit {0}
 

@@ -16,7 +16,7 @@ ghost use Rattle.mg_txlist.specs.Refusals.{RefusesHead, RefusesLoad, RefusesTip,
 ghost use Rattle.mg_txlist.specs.TxList.{IsTxList};
 
 use crate::list::{TipPage, TxList};
-use mg_base::{Damaged, Disk, Field, PageNo};
+use mg_base::{Damaged, Disk, Field, GREATEST_LIMIT, PageNo};
 use mg_header::{HeadFault, Header, MAGIC, MAJOR, OPENED_MINOR, open_header};
 use mg_pool::Batch;
 use mg_space::{SpaceFault, Store, page_of, places_of};
@@ -125,26 +125,28 @@ fn load_pages<D: Disk>(
     ensures says { (image : Image) → Tells D.meaning store.old.disk image → IfOk result
         (λ pages. pages.items ≡ tips_below (shown store.old.dirty image) last.0 count) }
     ensures refused { (image : Image) → Tells D.meaning store.old.disk image → IfErr result
-        (RefusesTips D.meaning store.new store.old.geometry.limit (shown store.old.dirty image) last.0
-        count) }
+        (RefusesTips D.meaning store.new (shown store.old.dirty image) last.0 count) }
     ensures reads { IfOk result (λ pages. ReadsPages D.meaning store.old store.new (length pages.items)
         (is_among_tips pages.items)) }
 {
     store.online()?;
     let mut pages = Vec::new(store.alloc());
+    let mut holder = PageNo(0);
     let mut at = last;
     for k in 0..count {
-        let page = load_page(store, batch, at, count - k - 1)?;
+        let page = load_page(store, batch, holder, at, count - k - 1)?;
+        holder = at;
         at = prev_of(page.bytes.as_slice());
         pages.insert(0, page)?;
     }
     Ok(pages)
 }
 
-/// A transaction inventory page. None is the header page.
+/// The transaction inventory page that another page names. None is the header page.
 fn load_page<D: Disk>(
     store: &mut Store<D>,
     batch: &Batch,
+    holder: PageNo,
     at: PageNo,
     sequence: u32,
 ) -> Result<TipPage, SpaceFault>
@@ -161,13 +163,12 @@ fn load_page<D: Disk>(
     ensures says { (image : Image) → Tells D.meaning store.old.disk image → IfOk result
         (λ page. page.bytes ≡ shown store.old.dirty image at.0) }
     ensures refused { (image : Image) → Tells D.meaning store.old.disk image → IfErr result
-        (RefusesTip D.meaning store.new store.old.geometry.limit (shown store.old.dirty image) sequence
-        at) }
+        (RefusesTip D.meaning store.new holder (shown store.old.dirty image) sequence at) }
     ensures reads { Fetches D.meaning store.old store.new at.0 }
 {
     store.online()?;
     if at.0 == 0 {
-        return Err(SpaceFault::Damaged(no_link(store)));
+        return Err(SpaceFault::Damaged(no_link(holder)));
     }
     let bytes = page_of(store, batch, at)?;
     check_tip(bytes.as_slice(), at, sequence)?;
@@ -175,13 +176,13 @@ fn load_page<D: Disk>(
 }
 
 /// Names a link of the chain that leads to the header page.
-fn no_link<D: Disk>(store: &Store<D>) -> Damaged
-    ensures { result ≡ link_to_head store.now.geometry.limit }
+fn no_link(holder: PageNo) -> Damaged
+    ensures { result ≡ link_to_head holder }
 {
     Damaged {
-        page: PageNo(0),
+        page: holder,
         field: Field::Link,
         found: 0,
-        wanted: u64::from(store.geometry().limit),
+        wanted: u64::from(GREATEST_LIMIT - 1),
     }
 }

@@ -9,7 +9,7 @@
 //! changes are taken back. A key leaves the map with its first change, and then it is the last.
 //!
 //! `goes_whole` tests which rows of the catalog are taken back: a transaction that takes back a CREATE TABLE takes back
-//! all rows of that table, and the engine takes them out in one batch.
+//! all rows of that table, and the engine takes them out one by one, each in a batch of its own.
 //!
 //! Invariant: a point stands no higher than the changes that are left, and no lower than an older
 //! point. The places are those of the changes.

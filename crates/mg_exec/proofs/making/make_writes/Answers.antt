@@ -1,7 +1,9 @@
-use Rattle.std.proofs.Common.{◌≡◌, ℕ, true, List, map, length, sym, ap, subst, ◌∙◌}
+use Rattle.std.proofs.Common.{◌≡◌, ℕ, true, List, [], map, length, sym, ap, subst, ◌∙◌}
 use Rattle.std.specs.Result.{MatchResult}
 use Rattle.mg_expr.specs.declared.expr.Expr.{Expr}
 use Rattle.mg_expr.specs.Trees.{tree_of}
+use Rattle.mg_expr.specs.Typing.{sort_of}
+use Rattle.mg_plan.specs.Types.{fit_places}
 use Rattle.mg_statements.specs.declared.statement.Assign.{Assign}
 use Rattle.mg_statements.specs.declared.statement.Statement.{Statement}
 use Rattle.mg_statements.specs.Plain.{plain_of, tree_in}
@@ -9,16 +11,16 @@ use Rattle.mg_plan.specs.Statements.{is_typed}
 use Rattle.mg_rows.specs.NewRows.{updated}
 use Rattle.mg_records.specs.Writing.{FitsShape}
 use Rattle.mg_exec.specs.Making.{AreMade, MakesNone, changes_of, made_by}
-use Rattle.mg_exec.proofs.MakingLemmas.{values_lengths, sets_lengths}
+use Rattle.mg_exec.proofs.MakingLemmas.{sets_lengths}
 use Rattle.mg_exec.proofs.making.make_writes.Goals as goal
 
 pub insert_values-requires : goal.insert_values-requires
 insert_values-requires c =
-    ap (λ (xs : List ℕ). length xs) c.deref.ensures.value
-    ∙ values_lengths c.args.table.now.shape.columns c.args.bound.now.places.items c.in-Insert.values.items
+    subst (λ (x : List ℕ × List Expr). fit_places c.args.table.now.shape.columns x.0
+    (map (λ t. sort_of t []) (map tree_of x.1)) ≡ true)
+    (sym (λ k. (c.deref.ensures.value k, c.deref-in-Insert.ensures.value k)))
     (subst (λ (s : Statement). is_typed c.args.table.now.shape.columns c.args.bound.now.places.items (plain_of s) ≡ true)
     c.in-Insert.is c.requires)
-    ∙ sym (ap (λ (xs : List Expr). length xs) c.deref-in-Insert.ensures.value)
 
 pub update_found-requires : goal.update_found-requires
 update_found-requires c =

@@ -78,4 +78,4 @@ returns-in-Err-clause-headline g c = λ size image o script entry left. unread_p
 pub returns-in-Err-clause-other_files : goal.returns-in-Err-clause-other_files
 returns-in-Err-clause-other_files g c = λ size image other. unread_files g.D.Disk.meaning g.S.Source.meaning
     g.K.Sink.meaning c.args.source.now c.read_lines.new.source c.args.disk c.args.sink.now c.say_end.new.sink
-    c.in-Err.end c.say_end.result c.in-Err.ensures c.say_end.ensures c.args.limit size image
+    c.in-Err.end c.say_end.result c.in-Err.ensures c.say_end.ensures size image

@@ -32,7 +32,7 @@ returns-in_err-online-clause-own g c = own_as (Unit {0}) c.from_residual.result 
 
 pub returns-in_err-online-clause-refused : goal.returns-in_err-online-clause-refused
 returns-in_err-online-clause-refused g c = λ image tells. err_as c.from_residual.result (faults.Pool c.in_err-online.field-0.0)
-    (RefusesTip g.D.Disk.meaning c.args.store.now c.args.store.now.geometry.limit
+    (RefusesTip g.D.Disk.meaning c.args.store.now c.args.holder
     (shown c.args.store.now.dirty image) c.args.sequence c.args.at) c.from_residual.ensures.1 tt
 
 pub returns-in_err-online-clause-reads : goal.returns-in_err-online-clause-reads
@@ -92,9 +92,9 @@ returns-in_err-bytes-clause-own g c = own_as (Unit {0}) c.from_residual-in_err-b
 
 pub returns-in_err-bytes-clause-refused : goal.returns-in_err-bytes-clause-refused
 returns-in_err-bytes-clause-refused g c = λ image tells. err_as c.from_residual-in_err-bytes.result c.in_err-bytes.field-0.0
-    (RefusesTip g.D.Disk.meaning c.page_of.new.store c.args.store.now.geometry.limit
+    (RefusesTip g.D.Disk.meaning c.page_of.new.store c.args.holder
     (shown c.args.store.now.dirty image) c.args.sequence c.args.at) c.from_residual-in_err-bytes.ensures.1
-    (tip_read (List ℕ) g.D.Disk.meaning c.page_of.new.store c.args.store.now.geometry.limit
+    (tip_read (List ℕ) g.D.Disk.meaning c.page_of.new.store c.args.holder
     (shown c.args.store.now.dirty image) c.args.batch.now.pages c.args.sequence c.args.at c.in_err-bytes.field-0.0
     c.if-at-eq0.false c.in_err-bytes.ensures.refusal)
 
@@ -128,9 +128,9 @@ returns-in_err-check_tip-clause-own g c = own_as (Unit {0}) c.from_residual-in_e
 
 pub returns-in_err-check_tip-clause-refused : goal.returns-in_err-check_tip-clause-refused
 returns-in_err-check_tip-clause-refused g c = λ image tells. err_as c.from_residual-in_err-check_tip.result
-    (faults.Damaged c.in_err-check_tip.field-0.0) (RefusesTip g.D.Disk.meaning c.page_of.new.store c.args.store.now.geometry.limit
+    (faults.Damaged c.in_err-check_tip.field-0.0) (RefusesTip g.D.Disk.meaning c.page_of.new.store c.args.holder
     (shown c.args.store.now.dirty image) c.args.sequence c.args.at) c.from_residual-in_err-check_tip.ensures.1
-    (tip_differs g.D.Disk.meaning c.page_of.new.store c.args.store.now.geometry.limit
+    (tip_differs g.D.Disk.meaning c.page_of.new.store c.args.holder
     (shown c.args.store.now.dirty image) c.args.sequence c.args.at c.as_slice.result.now c.in_ok-bytes.bytes
     c.check_tip.result c.in_err-check_tip.field-0.0 c.if-at-eq0.false c.as_slice.ensures
     (c.in_ok-bytes.ensures.seen image tells ∙ ap (λ (v : Pages). v c.args.at.0)

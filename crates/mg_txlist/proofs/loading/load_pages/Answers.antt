@@ -11,7 +11,7 @@ use Rattle.mg_txlist.specs.declared.list.TipPage.{TipPage}
 use Rattle.mg_txlist.proofs.ChainLemmas.{all_read, all_tested, counted, has_states, read_at, read_tested, read_whole}
 use Rattle.mg_txlist.proofs.HandedLemmas.{geometry_on, own_memory, refusal_reads, stays_online, told_memory, told_then}
 use Rattle.mg_txlist.proofs.ReadingLemmas.{read_front}
-use Rattle.mg_txlist.proofs.RefusalLemmas.{err_as, one_back, tips_refused}
+use Rattle.mg_txlist.proofs.RefusalLemmas.{err_as, holder_on, one_back, tips_refused}
 use Rattle.mg_txlist.proofs.loading.load_pages.Goals as goal
 
 pub loop-k-preserved : goal.loop-k-preserved
@@ -41,6 +41,8 @@ loop-k-preserved g c = record {
       (tells_on g.D.Disk.meaning c.args.store.now c.loop-k.store image c.loop-k.invariant.keeps tells)
       ∙ ap (λ (d : DirtyPages). shown d image c.loop-k.at.0) c.loop-k.invariant.keeps.dirty)
       c.prev_of-at.ensures;
+  holds = λ image tells. holder_on (shown c.args.store.now.dirty image) c.args.last.0 c.loop-k.k c.loop-k.at
+      (c.loop-k.invariant.stands image tells);
   reads = read_front g.D.Disk.meaning c.args.store.now c.loop-k.store c.load_page.new.store c.loop-k.at.0
       c.in_ok-page.page c.loop-k.pages.items c.insert.new.self.items c.loop-k.invariant.reads
       c.load_page.ensures.reads c.in_ok-page.ensures.page c.in_ok-insert.ensures.items;
@@ -49,11 +51,12 @@ loop-k-preserved g c = record {
 pub returns-in_err-page-clause-refused : goal.returns-in_err-page-clause-refused
 returns-in_err-page-clause-refused g c = λ image tells. err_as c.from_residual-in_err-page.result
     c.in_err-page.field-0.0
-    (RefusesTips g.D.Disk.meaning c.load_page.new.store c.args.store.now.geometry.limit
+    (RefusesTips g.D.Disk.meaning c.load_page.new.store
     (shown c.args.store.now.dirty image) c.args.last.0 c.args.count) c.from_residual-in_err-page.ensures.1
     (tips_refused g.D.Disk.meaning c.args.store.now c.loop-k.store c.load_page.new.store image
-    c.args.last.0 c.args.count c.loop-k.k c.loop-k.at c.in_err-page.field-0.0
-    c.loop-k.invariant.keeps tells c.loop-k-test.true (c.loop-k.invariant.stands image tells)
+    c.args.last.0 c.args.count c.loop-k.k c.loop-k.holder c.loop-k.at c.in_err-page.field-0.0
+    c.loop-k.invariant.keeps tells c.loop-k-test.true (c.loop-k.invariant.holds image tells)
+    (c.loop-k.invariant.stands image tells)
     (c.in_err-page.ensures.refused image))
 
 pub returns-in_err-online-clause-keeps : goal.returns-in_err-online-clause-keeps
@@ -69,7 +72,7 @@ returns-in_err-online-clause-own g c = own_as (Unit {0}) c.from_residual.result 
 
 pub returns-in_err-online-clause-refused : goal.returns-in_err-online-clause-refused
 returns-in_err-online-clause-refused g c = λ image tells. err_as c.from_residual.result (faults.Pool c.in_err-online.field-0.0)
-    (RefusesTips g.D.Disk.meaning c.args.store.now c.args.store.now.geometry.limit
+    (RefusesTips g.D.Disk.meaning c.args.store.now
     (shown c.args.store.now.dirty image) c.args.last.0 c.args.count) c.from_residual.ensures.1 tt
 
 pub returns-in_err-online-clause-count : goal.returns-in_err-online-clause-count
@@ -136,7 +139,7 @@ returns-in_err-insert-clause-own g c = own_memory c.from_residual-in_err-insert.
 
 pub returns-in_err-insert-clause-refused : goal.returns-in_err-insert-clause-refused
 returns-in_err-insert-clause-refused g c = λ image tells. err_as c.from_residual-in_err-insert.result out_of_memory
-    (RefusesTips g.D.Disk.meaning c.load_page.new.store c.args.store.now.geometry.limit
+    (RefusesTips g.D.Disk.meaning c.load_page.new.store
     (shown c.args.store.now.dirty image) c.args.last.0 c.args.count) c.from_residual-in_err-insert.ensures.1 tt
 
 pub returns-in_err-insert-clause-count : goal.returns-in_err-insert-clause-count

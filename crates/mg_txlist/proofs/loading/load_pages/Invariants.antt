@@ -7,6 +7,7 @@ use Rattle.mg_pool.specs.Reading.{ReadsPages}
 use Rattle.mg_space.specs.View.{KeepsStore, Tells}
 use Rattle.mg_txlist.specs.Chain.{AreTested, AreWholePages, tips_below}
 use Rattle.mg_txlist.specs.Reading.{is_among_tips}
+use Rattle.mg_txlist.specs.Refusals.{holder_of}
 use Rattle.mg_txlist.proofs.loading.load_pages.Given as goal
 
 abbrev pub invariant-loop-k : goal.invariant-loop-k
@@ -21,6 +22,8 @@ invariant-loop-k g l = record {
       ≡ tips_below (shown l.initial.store.dirty image) l.at.0 (l.count - l.k) ++ l.pages.items;
   stands : (image : Image) → Tells g.D.Disk.meaning l.initial.store.disk image
       → l.at.0 ≡ tip_before (shown l.initial.store.dirty image) l.fn.last.0 l.k;
+  holds : (image : Image) → Tells g.D.Disk.meaning l.initial.store.disk image
+      → l.holder ≡ holder_of (shown l.initial.store.dirty image) l.fn.last.0 l.k;
   reads : ReadsPages g.D.Disk.meaning l.initial.store l.store (length l.pages.items)
       (is_among_tips l.pages.items);
 }
