@@ -19,6 +19,8 @@ use Rattle.mg_tree_overlays.specs.TreeBatches.{ChangesTree, IsNoInventory, Order
 use Rattle.mg_tree_overlays.specs.GrowLaws.{chains_of}
 use Rattle.mg_tree_overlays.specs.GrowParts.{grow_wider, root_in}
 use Rattle.mg_tree_overlays.specs.PoolLaws.{pool_changed}
+use Rattle.mg_tree_overlays.specs.TreeHeightLaws.{root_level}
+use Rattle.mg_btree.specs.PageCountLaws.{grow_count}
 use Rattle.mg_btree.specs.declared.growing.Growth.{Growth}
 use Rattle.mg_btree.specs.declared.halves.PageBytes.{PageBytes}
 use Rattle.mg_btree.specs.Changing.{HasNoInventory}
@@ -314,5 +316,8 @@ module _ (g : Geometry) (lawful : IsGeometry g) (owner root level a b : ℕ) (le
         fresh = fresh;
         others = others;
         few = omega (arith, few);
+        more_pages =
+            let two = grow_count root a b levels (root_level old root levels stands.tree.rooted stands.tree.levels_from) in
+            omega (arith, two);
         stays = stays;
       }

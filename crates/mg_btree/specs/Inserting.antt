@@ -10,6 +10,7 @@ use Rattle.mg_node_writing.specs.NodeChanges.{InsertsEntry, IsEntryOf}
 use Rattle.mg_pool.specs.Batch.{Changed, PutsPage, content_in, lists}
 use Rattle.mg_space.specs.declared.fault.SpaceFault.{SpaceFault}
 use Rattle.mg_space.specs.declared.fault.SpaceFault.TheVariants.{Full, Pool as OfPool, Damaged as OfPage}
+use Rattle.mg_tree_overlays.specs.TreePages.{all_of}
 use Rattle.mg_tree_overlays.specs.TreeSteps.{InTree}
 use Rattle.mg_tree_overlays.specs.TreesBehind.{Covers}
 use Rattle.mg_tree_overlays.specs.TreeBatches.{Add, ChangesTree, IsNoInventory}
@@ -57,13 +58,16 @@ pub record PutsIn (size : ℕ) (old new : Pages) (before batch : Changed) (owner
       levels ends row e
   pub tree : IsTree size new owner root ends
   pub no_inventory : HasNoInventory size ends
-  -- what comes to the tree was not used, and no page changes but the tree's and those of the page
-  -- inventory
+  -- the tree keeps its pages, what comes to it was not used, and no page changes but the tree's and
+  -- those of the page inventory
+  pub wider : (n : ℕ) → InTree levels n → InTree ends n
   pub fresh : (n : ℕ) → InTree ends n → InTree levels n ⊎ (is_used size old n ≡ false)
   pub others : (n : ℕ) → (InTree ends n → ⊥) → IsNoInventory size n → new n ≡ old n
   -- the batch has at most four pages more for each level above the leaves, and six for the root and a
   -- leaf
   pub few : length batch.pages ≤ length before.pages + (4 * level_in (old root) + 6)
+  -- and the tree at most one for each level below the root's, and two for the root
+  pub more_pages : length (all_of ends) ≤ length (all_of levels) + (level_in (old root) + 2)
   pub has : Finds new e root
   pub keeps : (f : Entry) → Finds old f root → Finds new f root
   pub only : (f : Entry) → Finds new f root → Finds old f root ⊎ (f ≡ e)

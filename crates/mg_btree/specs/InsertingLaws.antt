@@ -138,9 +138,11 @@ module _ (g : Geometry) (owner root : ℕ) (levels : List (List ℕ)) (was : Pag
         full = tt;
         tree = stands.tree;
         no_inventory = stands.no_inventory;
+        wider = λ n placed. placed;
         fresh = λ n placed. inl placed;
         others = λ n out none_. refl;
         few = omega arith;
+        more_pages = omega arith;
         has = found_there has;
         keeps = λ f found. found;
         only = λ f found. inl found;
@@ -305,6 +307,7 @@ module _ (g : Geometry) (owner root : ℕ) (levels : List (List ℕ)) (was : Pag
             full = steps.full;
             tree = changed.tree;
             no_inventory = made.stands.no_inventory;
+            wider = made.wider;
             fresh = made.fresh;
             others = λ m out none_. others m (λ same. out (subst (InTree made.ends) (sym same)
                 made.stands.placed)) ∙ made.others m out none_;
@@ -312,6 +315,7 @@ module _ (g : Geometry) (owner root : ℕ) (levels : List (List ℕ)) (was : Pag
                 let room = made.few in
                 let one = put_few second last page.page.0 puts.bytes puts.puts in
                 omega (arith, room, one);
+            more_pages = let room = made.more_pages in omega (arith, room);
             has = has_it;
             keeps = λ f found. changed.keeps f tt found;
             only = λ f found. changed.only f found;

@@ -22,6 +22,7 @@ pub mod Ordering
 pub mod EachOrderLaws
 pub mod RowOrders
 pub mod RowTakings
+pub mod PageCountLaws
 pub mod Rooms
 pub mod Growing
 pub mod Making

@@ -22,6 +22,9 @@ use Rattle.mg_tree_overlays.specs.GrowParts.{root_in}
 use Rattle.mg_tree_overlays.specs.SplitParts.{tree_back, tree_right, tree_wider}
 use Rattle.mg_tree_overlays.specs.DescentLaws.{ascends, covers_own, last_has}
 use Rattle.mg_tree_overlays.specs.PoolLaws.{pool_changed}
+use Rattle.mg_tree_overlays.specs.TreeOnceLaws.{tree_once}
+use Rattle.mg_tree_overlays.specs.TreePages.{all_of}
+use Rattle.mg_btree.specs.PageCountLaws.{split_count}
 use Rattle.mg_btree.specs.declared.halves.Halves.{Halves}
 use Rattle.mg_btree.specs.declared.halves.PageBytes.{PageBytes}
 use Rattle.mg_btree.specs.Changing.{HasNoInventory}
@@ -55,6 +58,7 @@ makes_nothing g old batch owner root levels level e page stands = record {
   fresh = λ n placed. inl placed;
   others = λ n out none. refl;
   few = omega arith;
+  more_pages = omega arith;
   stays = λ n placed low. refl;
 }
 
@@ -384,6 +388,15 @@ module _ (g : Geometry) (lawful : IsGeometry g) (owner root level : ℕ) (levels
           let made_few = made.few in
           omega (arith, top, one, made_few, put_few, lower)
 
+      more_pages : length (all_of ends) ≤ length (all_of levels) + (level_in (old root) - level + 2)
+      more_pages =
+          let top : level_in (mid root) ≡ level_in (old root) = ap level_in (mid_same root
+          (root_in g.size old owner root levels stands.tree.rooted stands.tree)) in
+          let made_more = made.more_pages in
+          let one = split_count full.page.0 halves.right.page.0 made.ends
+          (tree_once g.size late owner root made.ends made.stands.tree) in
+          omega (arith, top, made_more, one, lower)
+
       no_inventory : HasNoInventory g.size ends
       no_inventory n has = at (tree_back full.page.0 halves.right.page.0 made.ends n has)
         where
@@ -434,5 +447,6 @@ module _ (g : Geometry) (lawful : IsGeometry g) (owner root level : ℕ) (levels
         fresh = fresh;
         others = others;
         few = few;
+        more_pages = more_pages;
         stays = stays;
       }

@@ -12,6 +12,7 @@ use Rattle.mg_pool.specs.Batch.{Changed, content_in, lists}
 use Rattle.mg_space.specs.Taking.{RefusesTake, TakesPage}
 use Rattle.mg_space.specs.declared.fault.SpaceFault.{SpaceFault}
 use Rattle.mg_space.specs.declared.fault.SpaceFault.TheVariants.{Full, Pool as OfPool, Damaged as OfPage}
+use Rattle.mg_tree_overlays.specs.TreePages.{all_of}
 use Rattle.mg_tree_overlays.specs.TreeSteps.{InTree, StaysUsed}
 use Rattle.mg_tree_overlays.specs.TreeBatches.{ChangesTree, IsNoInventory, Stay, inventory_of}
 use Rattle.mg_btree.specs.declared.halves.PageBytes.{PageBytes}
@@ -77,6 +78,8 @@ pub record MakesRoom (g : Geometry) (old new : Pages) (before batch : Changed) (
   pub others : (n : ℕ) → (InTree ends n → ⊥) → IsNoInventory g.size n → new n ≡ old n
   -- the batch has at most four pages more for each level above, and five for the root
   pub few : length batch.pages ≤ length before.pages + (4 * (level_in (old root) - level) + 5)
+  -- the tree has at most a page more for each level from this one up to the root's, and two for the root
+  pub more_pages : length (all_of ends) ≤ length (all_of levels) + (level_in (old root) - level + 2)
   pub stays : (n : ℕ) → InTree levels n → level_in (old n) < level → new n ≡ old n
 
 -- the damage of a root that is to split and stands on the highest level that there is

@@ -11,7 +11,8 @@ use Rattle.mg_image.specs.Sound.{IsSoundBy}
 use Rattle.mg_image.specs.Tables.{Has, Layout, stands_of}
 use Rattle.mg_image_overlays.specs.DataPages.{ChangesData, header_same, last_same, tip_content, tip_same, used_kept}
 use Rattle.mg_image_overlays.specs.Rest.{div_grows}
-use Rattle.mg_image_overlays.specs.KeptImages.{IsBehind}
+use Rattle.mg_image_overlays.specs.BehindTrees.{behind_stays}
+use Rattle.mg_image_overlays.specs.KeptImages.{IsBehind, StandsBehind}
 use Rattle.mg_tip.specs.TipPage.{places}
 use Rattle.std.proofs.Common.{Bool, List, ap, arith, subst, sym, ℕ, ◌-◌, ◌∙◌, ◌≡◌, ◌≢◌, ◌≤◌}
 
@@ -24,6 +25,14 @@ module _ (in_primary : Bool) (size : ℕ) (state : ℕ → TxState) (form : Form
     (image laid : Pages) (layout : Layout) (reading : Reading)
     (sound : IsSoundBy form size state image layout reading)
     (behind : IsBehind size pool image of_pool layout) where
+  -- the changed page is none of an index
+  trees : (last : Pages) → StandsBehind changed last (stands_of of_pool) (stands_of layout)
+  trees last = behind_stays pool changed image last form.in_primary size (stands_of of_pool)
+      (stands_of layout) pool_sound.tables
+      (λ m is seven. pool_change.others m (λ e.
+      let five : byte (pool m) 0 ≡ 5 = ap (λ (k : ℕ). byte (pool k) 0) e ∙ pool_change.kind in
+      omega (arith, five, seven))) behind.trees
+
   -- the pool alone
   pub behind_out : IsBehind size changed image of_pool layout
   behind_out = record {
@@ -33,6 +42,7 @@ module _ (in_primary : Bool) (size : ℕ) (state : ℕ → TxState) (form : Form
     stands = behind.stands;
     chained = λ m is some_. chained m is (behind.chained m is some_);
     tips = λ sequence within. tips sequence within (behind.tips sequence within);
+    trees = trees image;
   }
     where
       chained : (m : ℕ) → Has (pointers_of (stands_of layout)) m → image m ≡ pool m
@@ -76,6 +86,7 @@ module _ (in_primary : Bool) (size : ℕ) (state : ℕ → TxState) (form : Form
     tips = λ sequence within. tips sequence (subst (λ (m : ℕ). sequence ≤ m)
         (last_same form.in_primary size image laid b change sound.header sound.inventory
         sound.transactions) within);
+    trees = trees laid;
   }
     where
       chained_in : (m : ℕ) → Has (pointers_of (stands_of layout)) m → next_in (laid m) ≢ 0

@@ -17,6 +17,7 @@ use Rattle.mg_image.specs.RecordRules.{Facts, committed_in}
 use Rattle.mg_image.specs.Records.{Reading}
 use Rattle.mg_image.specs.Sound.{IsSoundBy, facts_by}
 use Rattle.mg_image.specs.Tables.{Has, Layout, stands_of}
+use Rattle.mg_image_overlays.specs.BehindTrees.{behind_stays}
 use Rattle.mg_image_overlays.specs.Bits.{ChangesTip, bits_sound, facts_same, header_same, last_same, tip_same, used_same}
 use Rattle.mg_image_overlays.specs.DataSound.{KeepsTrees}
 use Rattle.mg_image_overlays.specs.Fronts.{HasFronts}
@@ -127,6 +128,11 @@ module _ (form : Form) (none : HasNoSequences form) (size : ℕ) (o : Opening) (
       tips = λ sequence within. tips sequence (subst (λ (m : ℕ). sequence ≤ m)
           (last_same form size state image laid_ b k kept.layout kept.reading kept.sound tip_laid drawn_laid)
           within);
+      trees = behind_stays pool changed image laid_ form.in_primary size (stands_of kept.of_pool)
+          (stands_of kept.layout) kept.pool_sound.tables
+          (λ m is seven. tip.others m (λ e.
+          let three : byte (pool m) 0 ≡ 3 = ap (λ (n : ℕ). byte (pool n) 0) e ∙ tip.kind in
+          omega (arith, seven, three))) kept.behind.trees;
     };
     fronts = subst (λ (f : Facts). HasFronts f (facts_by state laid_ kept.layout) kept.in_pool kept.reading)
         (sym pool_facts) (subst (λ (g : Facts). HasFronts (facts_by state pool kept.of_pool) g

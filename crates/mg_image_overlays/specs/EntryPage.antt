@@ -48,6 +48,7 @@ has_last (m ∷ ms) n k = at (k == m) (has_last ms n k)
 pub grown_has : (n : ℕ) (s : Stand) → HasMore n s (grown s n)
 grown_has n s = record {
   table = refl;
+  trees = refl;
   pages = with_back n (s.pointers ++ s.data_pages) (s.pointers ++ (s.data_pages ++ (n ∷ [])))
       (tree_pages s.trees)
       (with_front n s.pointers s.data_pages (s.data_pages ++ (n ∷ [])) (with_last n s.data_pages));

@@ -11,7 +11,7 @@ use Rattle.mg_image_overlays.specs.Frame.{KeepsLinked, facts_same, frame_sound, 
 use Rattle.mg_image_overlays.specs.Grow.{last_is, tip_is}
 use Rattle.mg_image_overlays.specs.Kinds.{pointers_of}
 use Rattle.mg_image_overlays.specs.Rest.{div_grows}
-use Rattle.mg_image_overlays.specs.KeptImages.{AreFrontStands, IsBehind, IsKept}
+use Rattle.mg_image_overlays.specs.KeptImages.{AreFrontStands, IsBehind, IsKept, StandsBehind}
 use Rattle.mg_model.specs.History.{Entries}
 use Rattle.mg_model.specs.declared.opening.Opening.{Opening}
 use Rattle.mg_pointer.specs.PointerPage.{next_in}
@@ -31,7 +31,8 @@ module _ (form : Form) (size : ℕ) (o : Opening) (h : Entries) (state : ℕ →
       (used : (m : ℕ) → is_used size laid m ≡ true → is_used size changed m ≡ true)
       (stands : AreFrontStands (stands_of layout_after) (stands_of pool_after))
       (chained : (m : ℕ) → Has (pointers_of (stands_of layout_after)) m → next_in (laid m) ≢ 0
-      → laid m ≡ changed m) where
+      → laid m ≡ changed m)
+      (trees : StandsBehind changed laid (stands_of pool_after) (stands_of layout_after)) where
     behind_still : header_of laid ≡ header_of image
         → ((sequence : ℕ) → sequence ≤ last_sequence size image
         → (tip_page size laid sequence ≡ tip_page size image sequence)
@@ -45,6 +46,7 @@ module _ (form : Form) (size : ℕ) (o : Opening) (h : Entries) (state : ℕ →
       stands = stands;
       chained = chained;
       tips = λ sequence below. tips sequence (subst (λ (m : ℕ). sequence ≤ m) last_same below);
+      trees = trees;
     }
       where
         last_within : last_sequence size image ≤ last_sequence size pool
@@ -70,8 +72,9 @@ module _ (form : Form) (size : ℕ) (o : Opening) (h : Entries) (state : ℕ →
       → ((m : ℕ) → is_used size laid m ≡ true → is_used size changed m ≡ true)
       → AreFrontStands (stands_of kept.layout) (stands_of pool_after)
       → ((m : ℕ) → Has (pointers_of (stands_of kept.layout)) m → next_in (laid m) ≢ 0 → laid m ≡ changed m)
+      → StandsBehind changed laid (stands_of pool_after) (stands_of kept.layout)
       → IsKept form size o h state changed laid
-  extend_out keeps used stands chained = record {
+  extend_out keeps used stands chained trees = record {
     of_pool = pool_after;
     in_pool = kept.in_pool;
     layout = kept.layout;
@@ -79,7 +82,7 @@ module _ (form : Form) (size : ℕ) (o : Opening) (h : Entries) (state : ℕ →
     sound = frame_sound form size state image laid kept.layout kept.reading kept.sound keeps;
     pool_sound = extend_sound form size state pool changed kept.of_pool pool_after kept.in_pool n
         kept.pool_sound pool_extends;
-    behind = behind_still kept.layout used stands chained
+    behind = behind_still kept.layout used stands chained trees
         (frame_header form size state image laid kept.layout kept.reading kept.sound keeps) tips
         (last_is size image laid keeps.header_page keeps.used keeps.lengths kept.sound.header
         kept.sound.transactions (tip_kept form size state image laid kept.layout kept.reading kept.sound
@@ -112,8 +115,9 @@ module _ (form : Form) (size : ℕ) (o : Opening) (h : Entries) (state : ℕ →
       → AreFrontStands (stands_of layout_after) (stands_of pool_after)
       → ((m : ℕ) → Has (pointers_of (stands_of layout_after)) m → next_in (laid m) ≢ 0
       → laid m ≡ changed m)
+      → StandsBehind changed laid (stands_of pool_after) (stands_of layout_after)
       → IsKept form size o h state changed laid
-  extend_in layout_after extends used stands chained = record {
+  extend_in layout_after extends used stands chained trees = record {
     of_pool = pool_after;
     in_pool = kept.in_pool;
     layout = layout_after;
@@ -122,7 +126,7 @@ module _ (form : Form) (size : ℕ) (o : Opening) (h : Entries) (state : ℕ →
         extends;
     pool_sound = extend_sound form size state pool changed kept.of_pool pool_after kept.in_pool n
         kept.pool_sound pool_extends;
-    behind = behind_still layout_after used stands chained
+    behind = behind_still layout_after used stands chained trees
         (header_as form size state image laid kept.layout layout_after kept.reading n kept.sound extends)
         tips (last_is size image laid extends.header_page extends.used extends.lengths kept.sound.header
         kept.sound.transactions extends.tips);

@@ -1,6 +1,6 @@
 -- The last pointer page of a table is changed so that the table has a page more, which was taken before:
 -- in the pool, and in an overlay that has the pointer page, or has not.
-use Rattle.std.proofs.Common.{◌≡◌, ◌≢◌, ◌⊎◌, inl, inr, ap, sym, subst, ◌∙◌, refl, ℕ, Bool, true, false, List, [], ◌∷◌, ◌++◌, length, None}
+use Rattle.std.proofs.Common.{◌≡◌, ◌≢◌, ◌⊎◌, inl, inr, ap, sym, subst, ◌∙◌, refl, arith, ℕ, Bool, true, false, List, [], ◌∷◌, ◌++◌, length, None}
 use Rattle.std.proofs.lemmas.Bool.{cases_eq}
 use Rattle.std.specs.List.{flat_map}
 use Rattle.mg_base.specs.Fields.{byte}
@@ -16,11 +16,12 @@ use Rattle.mg_image.specs.KeptPageLaws.{entries_kept}
 use Rattle.mg_image.specs.Reached.{linked_pages, tips_of}
 use Rattle.mg_image.specs.Sound.{HasTablePages}
 use Rattle.mg_image.specs.Tables.{EachStand, Has, IsOnce, Layout, PointerChain, Stand, entries_in, has, pages_of, stands_of, tree_pages}
+use Rattle.mg_image_overlays.specs.BehindTrees.{behind_stays, trees_with}
 use Rattle.mg_image_overlays.specs.Grow.{each_mid}
 use Rattle.mg_image_overlays.specs.Growth.{has_back, has_either, has_front}
 use Rattle.mg_image_overlays.specs.Kinds.{HasNoSequences, chain_last, chain_next, linked_is, pointers_of}
 use Rattle.mg_image_overlays.specs.Rest.{TreesStay}
-use Rattle.mg_image_overlays.specs.KeptImages.{AreFrontStands, IsFrontOf, IsFrontStand, IsKept}
+use Rattle.mg_image_overlays.specs.KeptImages.{AllBehind, AreFrontStands, IsFrontOf, IsFrontStand, IsKept, StandsBehind, all_trees}
 use Rattle.mg_image_overlays.specs.Reach.{has_it, has_so, once_apart, once_back, once_front, pointers_front}
 use Rattle.mg_overlays.specs.Views.{LaysPage}
 use Rattle.mg_image_overlays.specs.GrowEvery.{SplitsAt, front_whole, pointers_mid, pointers_there, split}
@@ -171,6 +172,23 @@ module _ (form : Form) (none : HasNoSequences form) (size : ℕ) (trees : TreesS
       (sym it.is_) (fronts_joined it.first it.last last.before last.after it.mid (makes.more stand)
       it.first_behind (makes.front_out it.mid stand it.mid_behind) it.last_behind))
 
+  -- the changed page is none of an index
+  trees_pool : (laid : Pages) → StandsBehind changed laid (stands_of kept.of_pool) (stands_of kept.layout)
+  trees_pool laid = behind_stays pool changed image laid form.in_primary size (stands_of kept.of_pool)
+      (stands_of kept.layout) kept.pool_sound.tables
+      (λ m is seven. change.others m (λ e.
+      let four : byte (pool m) 0 ≡ 4 = ap (λ (k : ℕ). byte (pool k) 0) e ∙ change.kind in
+      omega (arith, four, seven))) kept.behind.trees
+
+  -- the table has the trees that it had
+  trees_out : (laid : Pages) → StandsBehind changed laid (stands_of pool_after) (stands_of kept.layout)
+  trees_out laid = subst (λ (ss : List Stand). StandsBehind changed laid ss (stands_of kept.layout))
+      (sym (stands_relaid kept.of_pool last.before last.after (makes.more stand)))
+      (subst (λ (ts : List (List (List (List ℕ)))). AllBehind changed laid ts (all_trees (stands_of kept.layout)))
+      (sym (trees_with last.before last.after stand (makes.more stand) (makes.has_more stand).trees))
+      (subst (λ (ss : List Stand). StandsBehind changed laid ss (stands_of kept.layout)) last.is_
+      (trees_pool laid)))
+
   -- a pointer page that names a next one is not q, and stays
   chained_with : (laid : Pages) → ((m : ℕ) → m ≢ q → laid m ≡ image m)
       → (laid q ≡ changed q) ⊎ (laid q ≡ image q) → (m : ℕ)
@@ -192,7 +210,7 @@ module _ (form : Form) (none : HasNoSequences form) (size : ℕ) (trees : TreesS
   pub step_without : IsKept form size o h state changed image
   step_without = extend_out form size o h state pool changed image image n kept pool_after pool_extends
       (keeps_all form size state image kept.layout kept.reading trees kept.sound) used_in_pool fronts_out
-      (chained_with image (λ m ne. refl) (inr refl))
+      (chained_with image (λ m ne. refl) (inr refl)) (trees_out image)
 
   -- one that has it
   module _ (laid : Pages) (there : HasTaken size pool changed image laid q n) where
@@ -229,7 +247,7 @@ module _ (form : Form) (none : HasNoSequences form) (size : ℕ) (trees : TreesS
     unreached off = extend_out form size o h state pool changed image laid n kept pool_after pool_extends
         (pointer_unlinked form size state image laid q kept.layout kept.reading none trees kept.sound
         change_laid (unlinked off)) used_within fronts_out
-        (chained_with laid there.lays.others (inl there.lays.is))
+        (chained_with laid there.lays.others (inl there.lays.is)) (trees_out laid)
 
     reached : Has it.mid.pointers q → IsKept form size o h state changed laid
     reached q_there = extend_in form size o h state pool changed image laid n kept pool_after pool_extends
@@ -242,7 +260,7 @@ module _ (form : Form) (none : HasNoSequences form) (size : ℕ) (trees : TreesS
         kept.sound change_laid) it.mid last.front its_pointers last.count_is
         (ap length data_same ∙ last.place_is)
         (ap (λ (t : Table). t.pointer.0) it.mid_behind.table ∙ last.owner_is) its_once))
-        used_within fronts_in chained_in
+        used_within fronts_in chained_in trees_in
       where
         its_pointers : it.mid.pointers ≡ last.front ++ (q ∷ [])
         its_pointers = front_whole it.mid.pointers last.front q
@@ -291,6 +309,14 @@ module _ (form : Form) (none : HasNoSequences form) (size : ℕ) (trees : TreesS
             (fronts_joined it.first it.last last.before last.after (makes.more it.mid) (makes.more stand)
             it.first_behind (makes.front_in it.mid stand it.mid_behind
             (its_pointers ∙ sym last.pointers_are) data_same) it.last_behind))
+
+        trees_in : StandsBehind changed laid (stands_of pool_after)
+            (stands_of (relaid kept.layout (it.first ++ (makes.more it.mid ∷ it.last))))
+        trees_in = subst (StandsBehind changed laid (stands_of pool_after))
+            (sym (stands_relaid kept.layout it.first it.last (makes.more it.mid)))
+            (subst (AllBehind changed laid (all_trees (stands_of pool_after)))
+            (sym (trees_with it.first it.last it.mid (makes.more it.mid) (makes.has_more it.mid).trees))
+            (subst (StandsBehind changed laid (stands_of pool_after)) it.is_ (trees_out laid)))
 
         chained_in : (m : ℕ)
             → Has (pointers_of (stands_of (relaid kept.layout (it.first ++ (makes.more it.mid ∷ it.last))))) m

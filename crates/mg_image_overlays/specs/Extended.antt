@@ -45,6 +45,7 @@ sequences_relaid layout (first ∷ before) after stand = refl
 -- A stand has a page more than another one of the same table.
 pub record HasMore (n : ℕ) (stand more : Stand) : Type 0 where
   pub table : more.table ≡ stand.table
+  pub trees : more.trees ≡ stand.trees
   pub pages : IsWith n (pages_of stand) (pages_of more)
   pub owners : (m : ℕ) → m ≢ n → has more.data_pages m ≡ has stand.data_pages m
   pub pointers : (m : ℕ) → Has more.pointers m → (m ≡ n) ⊎ Has stand.pointers m

@@ -11,6 +11,7 @@ use Rattle.mg_image.specs.RecordRules.{Facts, committed_in}
 use Rattle.mg_image.specs.Records.{Reading}
 use Rattle.mg_image.specs.Sound.{IsSoundBy, facts_by}
 use Rattle.mg_image.specs.Tables.{Has, Layout, stands_of}
+use Rattle.mg_image_overlays.specs.BehindTrees.{behind_stays}
 use Rattle.mg_image_overlays.specs.Frame.{KeepsLinked, facts_same, frame_sound, header_as, tip_kept}
 use Rattle.mg_image_overlays.specs.Fronts.{HasFronts}
 use Rattle.mg_image_overlays.specs.Grow.{last_is, tip_is}
@@ -59,6 +60,9 @@ frame_kept form size o h state pool changed image laid kept of_pool of_image use
     chained = chained;
     tips = λ sequence below. tips sequence (subst (λ (m : ℕ). sequence ≤ m)
         (last_sequence_is form size state image laid kept.layout kept.reading kept.sound of_image) below);
+    trees = behind_stays pool changed image laid form.in_primary size (stands_of kept.of_pool)
+        (stands_of kept.layout) kept.pool_sound.tables
+        (λ m is seven. of_pool.linked m (stands_linked size pool kept.of_pool m is)) kept.behind.trees;
   };
   fronts = subst (λ (f : Facts). HasFronts f (facts_by state laid kept.layout) kept.in_pool kept.reading)
       (sym pool_facts) (subst (λ (g : Facts). HasFronts (facts_by state pool kept.of_pool) g

@@ -13,12 +13,13 @@ use Rattle.mg_image.specs.Reached.{linked_pages, tips_of}
 use Rattle.mg_image.specs.Records.{Reading}
 use Rattle.mg_image.specs.Sound.{HasTablePages, IsSoundBy}
 use Rattle.mg_image.specs.Tables.{Has, IsOnce, Layout, PointerChain, Stand, entries_in, has, pages_of, stands_of, tree_pages}
+use Rattle.mg_image_overlays.specs.BehindTrees.{behind_stays}
 use Rattle.mg_image_overlays.specs.DataSound.{KeepsTrees}
 use Rattle.mg_image_overlays.specs.Grow.{GrowsImage}
 use Rattle.mg_image_overlays.specs.Growth.{grown, has_back, has_either, has_front}
 use Rattle.mg_image_overlays.specs.Kinds.{HasNoSequences, chain_last, chain_next, pointer_linked, pointers_of, stands_linked}
 use Rattle.mg_image_overlays.specs.Rest.{TreesStay}
-use Rattle.mg_image_overlays.specs.KeptImages.{AreFrontStands, IsFrontOf, IsFrontStand, IsKept, keeping}
+use Rattle.mg_image_overlays.specs.KeptImages.{AreFrontStands, IsFrontOf, IsFrontStand, IsKept, StandsBehind, keeping}
 use Rattle.mg_image_overlays.specs.Reach.{has_it, has_so, once_apart, once_back, once_front, pointers_front}
 use Rattle.mg_model.specs.History.{Entries}
 use Rattle.mg_model.specs.declared.opening.Opening.{Opening}
@@ -243,6 +244,14 @@ module _ (form : Form) (size : ℕ) (o : Opening) (h : Entries) (state : ℕ →
             laid_same ∙ (as_in_pool laid_same
             ∙ sym (pool_stays kept.in_pool kept.pool_sound m in_pool ne))
 
+    -- no page of an index of the pool is changed
+    trees_behind : StandsBehind changed laid (stands_of of_pool) (stands_of of_image)
+    trees_behind = behind_stays pool changed image laid form.in_primary size (stands_of of_pool)
+        (stands_of of_image) kept.pool_sound.tables
+        (λ m is. node_stays form size state pool changed pool changed owner place i q n none pages catalog
+        before after stand sequences kept.in_pool kept.pool_sound (λ k used. used) between_pool m
+        (stands_linked size pool of_pool m is)) kept.behind.trees
+
     -- q is reached in no other stand
     off_others : byte (image q) 0 ≡ 4 → (Has stand'.pointers q → ⊥)
         → Has (linked_pages size image of_image) q → ⊥
@@ -274,7 +283,7 @@ module _ (form : Form) (size : ℕ) (o : Opening) (h : Entries) (state : ℕ →
             pointers = mid.pointers;
             data_pages = front_last stand'.data_pages stand.data_pages n mid.data_pages;
           }) fronts_after,
-        ) chained)
+        ) chained trees_behind)
 
     reached : HasGrowth pool changed image laid i q n → Has stand'.pointers q
         → IsKept form size o h state changed laid
@@ -291,7 +300,7 @@ module _ (form : Form) (size : ℕ) (o : Opening) (h : Entries) (state : ℕ →
         after' stand' sequences' kept.reading kept.sound kept.behind.used between growth front pointers'
         (ap length data_same ∙ place_is)
         (ap (λ (t : Table). t.pointer.0) mid.table ∙ owner_is) laid_trees)
-        kept within first fronts_before mid fronts_after data_same chained)
+        kept within first fronts_before mid fronts_after data_same chained trees_behind)
       where
         pointers' : stand'.pointers ≡ front ++ (q ∷ [])
         pointers' = front_whole stand'.pointers front q

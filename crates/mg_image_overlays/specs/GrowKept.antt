@@ -15,12 +15,13 @@ use Rattle.mg_image.specs.Records.{Change, Reading, shown}
 use Rattle.mg_image.specs.Sound.{IsSoundBy, facts_by}
 use Rattle.mg_image.specs.Tables.{Has, Layout, Stand, stands_of}
 use Rattle.mg_image.specs.declared.entry.Entry.{Entry}
+use Rattle.mg_image_overlays.specs.BehindTrees.{trees_with}
 use Rattle.mg_image_overlays.specs.Frame.{KeepsLinked, facts_same, frame_sound, header_as, tip_kept}
 use Rattle.mg_image_overlays.specs.Fronts.{HasFronts}
 use Rattle.mg_image_overlays.specs.Grow.{GrowsImage, grow_sound, header_is, its_table, last_is, other_table, tip_is, with_grown}
 use Rattle.mg_image_overlays.specs.Growth.{grown}
 use Rattle.mg_image_overlays.specs.Rest.{div_grows}
-use Rattle.mg_image_overlays.specs.KeptImages.{AreFrontStands, IsBehind, IsFrontOf, IsFrontStand, IsKept}
+use Rattle.mg_image_overlays.specs.KeptImages.{AllBehind, AreFrontStands, IsBehind, IsFrontOf, IsFrontStand, IsKept, StandsBehind, all_trees}
 use Rattle.mg_model.specs.Changes.{row_at}
 use Rattle.mg_model.specs.History.{Entries}
 use Rattle.mg_model.specs.Machine.{database, own}
@@ -244,7 +245,8 @@ module _ (form : Form) (size : ℕ) (o : Opening) (h : Entries) (state : ℕ →
       (last_same : last_sequence size laid ≡ last_sequence size image)
       (stands : AreFrontStands (stands_of layout_after) (stands_of of_pool_after))
       (chained : (m : ℕ) → Has (pointers_of (stands_of layout_after)) m → next_in (laid m) ≢ 0
-      → laid m ≡ changed m) where
+      → laid m ≡ changed m)
+      (trees : StandsBehind changed laid (stands_of of_pool_after) (stands_of layout_after)) where
     pool_header : header_of changed ≡ header_of pool
     pool_header = header_is size pool changed grows.header_page grows.stand_grows.used grows.lengths
         kept.pool_sound.header kept.pool_sound.transactions grows.tips
@@ -257,6 +259,7 @@ module _ (form : Form) (size : ℕ) (o : Opening) (h : Entries) (state : ℕ →
       stands = stands;
       chained = chained;
       tips = λ sequence below. tips sequence (subst (λ (m : ℕ). sequence ≤ m) last_same below);
+      trees = trees;
     }
       where
         last_within : last_sequence size image ≤ last_sequence size pool
@@ -282,6 +285,12 @@ module _ (form : Form) (size : ℕ) (o : Opening) (h : Entries) (state : ℕ →
   pool_grown r sound = grow_sound form size state pool changed catalog sequences r before after stand
       front q n sound grows
 
+  -- the table has the trees that it had
+  trees_out : (stands : List Stand) → StandsBehind changed laid (stands_of of_pool) stands
+      → StandsBehind changed laid (stands_of of_pool_after) stands
+  trees_out stands = subst (λ (ts : List (List (List (List ℕ)))). AllBehind changed laid ts (all_trees stands))
+      (sym (trees_with (catalog ∷ before) after stand (grown stand n) refl))
+
   -- ---- an overlay that does not reach the page
 
   pub grow_out : (layout : Layout) → KeptAs form size o h state pool image of_pool layout
@@ -289,8 +298,9 @@ module _ (form : Form) (size : ℕ) (o : Opening) (h : Entries) (state : ℕ →
       → ((m : ℕ) → is_used size laid m ≡ true → is_used size changed m ≡ true)
       → AreFrontStands (stands_of layout) (stands_of of_pool_after)
       → ((m : ℕ) → Has (pointers_of (stands_of layout)) m → next_in (laid m) ≢ 0 → laid m ≡ changed m)
+      → StandsBehind changed laid (stands_of of_pool) (stands_of layout)
       → KeptAs form size o h state changed laid of_pool_after layout
-  grow_out layout kept keeps used stands chained = record {
+  grow_out layout kept keeps used stands chained trees = record {
     in_pool = kept.in_pool;
     reading = kept.reading;
     sound = frame_sound form size state image laid layout kept.reading kept.sound keeps;
@@ -299,7 +309,7 @@ module _ (form : Form) (size : ℕ) (o : Opening) (h : Entries) (state : ℕ →
         (header_as form size state image laid layout kept.reading kept.sound keeps)
         tips (last_is size image laid keeps.header_page keeps.used keeps.lengths kept.sound.header
         kept.sound.transactions (tip_kept form size state image laid layout kept.reading kept.sound keeps))
-        stands chained;
+        stands chained (trees_out (stands_of layout) trees);
     fronts = record { state = λ t. refl; fronts = kept.fronts.fronts };
     rows = kept.rows;
     held = subst (λ (g : Facts). IsHeld g (committed_in g) kept.reading kept.rows) (sym facts) kept.held;
@@ -346,8 +356,9 @@ module _ (form : Form) (size : ℕ) (o : Opening) (h : Entries) (state : ℕ →
           → AreFrontStands after' after → stand'.data_pages ≡ stand.data_pages
           → ((m : ℕ) → Has (pointers_of (stands_of layout')) m → next_in (laid m) ≢ 0
           → laid m ≡ changed m)
+          → StandsBehind changed laid (stands_of of_pool) (stands_of layout')
           → KeptAs form size o h state changed laid of_pool_after layout_after'
-      grow_in kept used first fronts_before mid fronts_after data_same chained = record {
+      grow_in kept used first fronts_before mid fronts_after data_same chained trees = record {
         in_pool = kept.in_pool;
         reading = kept.reading;
         sound = grow_sound form size state image laid catalog' sequences' kept.reading before' after'
@@ -367,7 +378,10 @@ module _ (form : Form) (size : ℕ) (o : Opening) (h : Entries) (state : ℕ →
                   }) fronts_after,
             )
             (λ m is. chained m (subst (λ (ns : List ℕ). Has ns m)
-            (pointers_grown (catalog' ∷ before') after' stand' n) is));
+            (pointers_grown (catalog' ∷ before') after' stand' n) is))
+            (subst (AllBehind changed laid (all_trees (stands_of of_pool_after)))
+            (sym (trees_with (catalog' ∷ before') after' stand' (grown stand' n) refl))
+            (trees_out (stands_of layout') trees));
         fronts = record { state = λ t. refl; fronts = kept.fronts.fronts };
         rows = kept.rows;
         held = grown_held state image laid layout' layout_after' n stand'.table kept.reading more empty

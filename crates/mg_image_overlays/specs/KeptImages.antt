@@ -18,8 +18,10 @@ use Rattle.mg_model.specs.History.{Entries}
 use Rattle.mg_model.specs.Machine.{database, own}
 use Rattle.mg_model.specs.declared.opening.Opening.{Opening}
 use Rattle.mg_overlays.specs.Overlays.{Keeping}
+use Rattle.mg_tree_overlays.specs.TreesBehind.{IsTreeBehind}
 use Rattle.mg_value.specs.declared.value.Value.{Value}
 use Rattle.std.proofs.Common.{List, [], true, ℕ, ◌∷◌, ◌≡◌, ◌≢◌, ◌≤◌}
+use Rattle.std.specs.Prelude.{map}
 
 -- ---- an overlay is behind the pool
 
@@ -41,8 +43,30 @@ AreFrontStands [] (b ∷ bs) = ⊥
 AreFrontStands (a ∷ stands) [] = ⊥
 AreFrontStands (a ∷ stands) (b ∷ bs) = IsFrontStand a b × AreFrontStands stands bs
 
--- An image is behind the pool's: the pool has grown, and each chain of pages that the image has goes
--- on as the pool's.
+-- the levels of a table's index trees, for each table
+abbrev pub all_trees : List Stand → List (List (List (List ℕ)))
+all_trees stands = map (λ stand. stand.trees) stands
+
+-- each index tree of a table is behind the pool's
+abbrev pub EachBehind : Pages → Pages → List (List (List ℕ)) → List (List (List ℕ)) → Type 0
+EachBehind pool image [] [] = Unit {0}
+EachBehind pool image [] (b ∷ bs) = ⊥
+EachBehind pool image (a ∷ trees) [] = ⊥
+EachBehind pool image (a ∷ trees) (b ∷ bs) = IsTreeBehind pool image a b × EachBehind pool image trees bs
+
+-- the same of the trees of all tables
+abbrev pub AllBehind : Pages → Pages → List (List (List (List ℕ))) → List (List (List (List ℕ))) → Type 0
+AllBehind pool image [] [] = Unit {0}
+AllBehind pool image [] (b ∷ bs) = ⊥
+AllBehind pool image (a ∷ all) [] = ⊥
+AllBehind pool image (a ∷ all) (b ∷ bs) = EachBehind pool image a b × AllBehind pool image all bs
+
+-- each index tree of these tables of the pool has behind it that of the image's table in the same place
+abbrev pub StandsBehind : Pages → Pages → List Stand → List Stand → Type 0
+StandsBehind pool image of_pool of_image = AllBehind pool image (all_trees of_pool) (all_trees of_image)
+
+-- An image is behind the pool's: the pool has grown, each chain of pages that the image has goes on as
+-- the pool's, and each index tree of the image is behind the pool's.
 pub record IsBehind (size : ℕ) (pool image : Pages) (of_pool of_image : Layout) : Type 0 where
   pub next : next_of image ≤ next_of pool
   pub used : (n : ℕ) → is_used size image n ≡ true → is_used size pool n ≡ true
@@ -53,6 +77,7 @@ pub record IsBehind (size : ℕ) (pool image : Pages) (of_pool of_image : Layout
   pub tips : (sequence : ℕ) → sequence ≤ last_sequence size image
       → (tip_page size image sequence ≡ tip_page size pool sequence)
       × (image (tip_page size image sequence) ≡ pool (tip_page size pool sequence))
+  pub trees : StandsBehind pool image (stands_of of_pool) (stands_of of_image)
 
 -- What an overlay has to be, as long as a history is under way: sound, behind the pool, with the
 -- versions that count there, and it holds the history's database and the own changes of those who

@@ -42,6 +42,7 @@ longer n stand = record stand { pointers = stand.pointers ++ (n ∷ []) }
 pub longer_has : (n : ℕ) (s : Stand) → HasMore n s (longer n s)
 longer_has n s = record {
   table = refl;
+  trees = refl;
   pages = with_back n (s.pointers ++ s.data_pages) ((s.pointers ++ (n ∷ [])) ++ s.data_pages)
       (tree_pages s.trees)
       (with_back n s.pointers (s.pointers ++ (n ∷ [])) s.data_pages (with_last n s.pointers));

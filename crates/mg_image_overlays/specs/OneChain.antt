@@ -91,9 +91,10 @@ level_count size pages owner root levels tree =
     (λ k. right_in (pages k)) root opens_.level opens_.chain nodes.0 tree.rooted in
     ap length opens_.is ∙ ap suc (sym node.on_level)
 
-tree_once : (size : ℕ) (pages : Pages) (owner root : ℕ) (a b : List (List ℕ))
+-- from a root there is one tree
+pub one_tree : (size : ℕ) (pages : Pages) (owner root : ℕ) (a b : List (List ℕ))
     → IsTree size pages owner root a → IsTree size pages owner root b → a ≡ b
-tree_once size pages owner root a b first second =
+one_tree size pages owner root a b first second =
     levels_once pages root a b first.levels_from second.levels_from
     (level_count size pages owner root a first ∙ sym (level_count size pages owner root b second))
 
@@ -106,7 +107,7 @@ trees_once size pages owner [] [] (l ∷ b) first other = absurd other
 trees_once size pages owner (i ∷ is) [] b first other = absurd first
 trees_once size pages owner (i ∷ is) (l ∷ a) [] first other = absurd other
 trees_once size pages owner (i ∷ is) (l ∷ a) (m ∷ b) first other =
-    let here : l ≡ m = tree_once size pages owner i.root.0 l m first.0 other.0 in
+    let here : l ≡ m = one_tree size pages owner i.root.0 l m first.0 other.0 in
     let rest : a ≡ b = trees_once size pages owner is a b first.1 other.1 in λ k. here k ∷ rest k
 
 -- ---- tables

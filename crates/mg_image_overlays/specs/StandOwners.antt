@@ -92,7 +92,7 @@ module _ (in_primary : Bool) (size : ℕ) (pages : Pages) (owner : ℕ) where
       (plain n 7 0 each.0.wanted.fields (omega arith))
   of_level height below (n ∷ ns) each m (inr more) = of_level height below ns each.1 m more
 
-  of_nodes : (levels : List (List ℕ)) → AreNodes size pages owner levels → (m : ℕ)
+  pub of_nodes : (levels : List (List ℕ)) → AreNodes size pages owner levels → (m : ℕ)
       → Has (flat_map (λ level. level) levels) m → IsOwned pages owner m
   of_nodes [] nodes m is = absurd is
   of_nodes (level ∷ below) nodes m is =

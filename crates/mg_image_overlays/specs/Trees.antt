@@ -21,11 +21,8 @@ use Rattle.std.proofs.Common.{Bool, List, None, Option, Some, [], ap, arith, fal
 use Rattle.std.proofs.lemmas.Bool.{eq-eqb}
 use Rattle.std.specs.List.{flat_map}
 use Rattle.std.specs.Prelude.{if◌then◌else◌}
+use Rattle.mg_tree_overlays.specs.TreePages.{all_of}
 use Rattle.mg_image.specs.Indexes as trees
-
--- the pages of levels
-abbrev pub all_of : List (List ℕ) → List ℕ
-all_of levels = flat_map (λ level. level) levels
 
 chain_first : (next : ℕ → ℕ) (k : ℕ) (ns : List ℕ) → LinkChain next k ns → (k ≡ 0) ⊎ Has ns k
 chain_first next k ns ended = inl refl

@@ -3,7 +3,8 @@
 //!
 //! Owns: the definition (`IsKept`), and what follows from it. An overlay is sound where the chosen
 //! transactions count as in limbo and the other active ones as dead; it is behind the pool's image
-//! (`IsBehind`); of each record it has the versions that count in the pool, and may have older ones
+//! (`IsBehind`), and each of its index trees behind the pool's, which stays so as long as index pages
+//! stay (`behind_stays`); of each record it has the versions that count in the pool, and may have older ones
 //! behind them; and it holds the history's database, with the own changes of those who count as in
 //! limbo. Every overlay is kept so (`EveryOverlay` of mg_overlays, of `keeping`).
 //!

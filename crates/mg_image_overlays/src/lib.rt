@@ -96,8 +96,9 @@
 //! There is no program here: each function does nothing, and its contract is a law.
 //!
 //! Invariant: none, it keeps no state.
-//! Below: `mg_image`, soundness and what an image shows; `mg_overlays`, the sets of pages; `mg_grown_catalogs`. Above: `mg_ties`, of the batches of each layer.
-//! Not here: the pages of index trees (`mg_tree_overlays`), and which calls make such changes.
+//! Below: `mg_image`, soundness and what an image shows; `mg_overlays`, the sets of pages; `mg_tree_overlays`, when a
+//! tree is behind another. Above: `mg_ties`, of the batches of each layer.
+//! Not here: batches that change index trees (`mg_entry_overlays`), and which calls make such changes.
 #![tactic(auto)]
 
 mod bits;

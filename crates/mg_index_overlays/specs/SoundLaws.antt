@@ -13,7 +13,7 @@ use Rattle.mg_image.specs.Sound.{HasInventory, HasRegion, HasTablePages}
 use Rattle.mg_image.specs.Tables.{EachStand, Has, IsOnce, Stand, pages_of, stands_of, tree_pages}
 use Rattle.mg_image_overlays.specs.DataPages.{all_passes, byte_blank, kind_of}
 use Rattle.mg_image_overlays.specs.Growth.{has_back, has_front}
-use Rattle.mg_image_overlays.specs.Trees.{all_of}
+use Rattle.mg_tree_overlays.specs.TreePages.{all_of}
 use Rattle.mg_pip.specs.PipPage.{bits}
 use Rattle.mg_tree_overlays.specs.StepLaws.{each_has}
 use Rattle.mg_tree_overlays.specs.TreeSteps.{InTree}

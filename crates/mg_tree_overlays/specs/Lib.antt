@@ -2,6 +2,9 @@ pub mod TreeSteps
 pub mod TreesBehind
 pub mod TreeBatches
 pub mod Laws
+pub mod TreePages
+pub mod TreeOnceLaws
+pub mod TreeHeightLaws
 pub mod StepLaws
 pub mod EntryLaws
 pub mod SplitLaws

@@ -4,6 +4,7 @@ ghost use Rattle.mg_tree_overlays.specs.Laws.{BatchesChangeTrees, BatchesKeepTre
 ghost use Rattle.mg_tree_overlays.specs.Laws.{CoversBelow, CoversParent, FoundInLeaves, LeafHasFound};
 ghost use Rattle.mg_tree_overlays.specs.Laws.{LaidBatchesKeepTrees, LeavesAreFound, RemovedIsGone};
 ghost use Rattle.mg_tree_overlays.specs.Laws.{TreesStart, WritesKeepTrees};
+ghost use Rattle.mg_tree_overlays.specs.TreePages.{TreesAreLow, TreesAreOnce};
 
 /// Where nothing is dirty there is one overlay, and its tree is the pool's; page writes keep the tree
 /// of each overlay.
@@ -32,4 +33,10 @@ pub fn covering_pages()
     ensures parent { CoversParent }
     ensures fences { CoversBelow }
     ensures leaf { LeafHasFound }
+{}
+
+/// No page stands twice in a tree, and none has more than 17 levels.
+pub fn trees_are_once_and_low()
+    ensures once { TreesAreOnce }
+    ensures low { TreesAreLow }
 {}

@@ -17,15 +17,21 @@
 //! "Found from the root" is "on a page of the bottom chain" (`FoundInLeaves`), so a split keeps what is
 //! found because the two halves have the old page's entries, without a word on ways down.
 //!
-//! Definitions: `specs/TreeSteps`, `TreesBehind`, `TreeBatches`; laws: `Laws`; the other files prove
-//! them. There is no program here: each function does nothing, and its contract is a law.
+//! Beside these stand two laws of a tree by itself: no page stands twice in it, and it has 17 levels at
+//! most, since each level has at least twice as many pages as the one above (`TreePages`).
+//!
+//! Definitions: `specs/TreeSteps`, `TreesBehind`, `TreeBatches`; laws: `Laws`, `TreePages`; the other
+//! files prove them. There is no program here: each function does nothing, and its contract is a law.
 //!
 //! Invariant: none, it keeps no state.
-//! Below: `mg_image`, what a tree is; `mg_overlays`, what a batch leaves. Above: `mg_btree`, whose
-//! batches are such rows, and the engine, which wants its rows found in every overlay.
+//! Below: `mg_image`, what a tree is; `mg_overlays`, what a batch leaves. Above: `mg_image_overlays`, of
+//! whose overlays each has such trees; `mg_btree`, whose batches are such rows.
 //! Not here: which table an index belongs to, the rows that its entries stand for, pages' bytes.
 #![tactic(auto)]
 
 mod laws;
 
-pub use laws::{batches_change_trees, batches_keep_trees, covering_pages, trees_start_and_stay};
+pub use laws::{
+    batches_change_trees, batches_keep_trees, covering_pages, trees_are_once_and_low,
+    trees_start_and_stay,
+};

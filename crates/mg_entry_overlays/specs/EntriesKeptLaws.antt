@@ -1,0 +1,445 @@
+-- A batch that lays index entries keeps what an overlay has to be: sound, behind the pool with each of its trees, and
+-- it holds the history that it held.
+use Rattle.std.proofs.Common.{◌≡◌, ◌≢◌, ◌⊎◌, inl, inr, refl, sym, ap, ◌∙◌, subst, arith, ◌<◌, ◌≤◌, ◌+◌, ◌-◌, ℕ, zero, suc, Bool, true, false, List, [], ◌∷◌, ◌++◌, length, Option, None}
+use Rattle.std.specs.Prelude.{if◌then◌else◌, unwrap_or}
+use Rattle.std.proofs.lemmas.Nat.{div-mul-add}
+use Rattle.std.specs.List.{flat_map}
+use Rattle.mg_base.specs.Fields.{byte}
+use Rattle.mg_base.specs.declared.transaction.TxState.{TxState}
+use Rattle.mg_careful.specs.CarefulWrite.{PageSet}
+use Rattle.mg_careful.specs.Precedence.{Orders}
+use Rattle.mg_header.specs.declared.header.Header.{Header}
+use Rattle.mg_model.specs.History.{Entries}
+use Rattle.mg_model.specs.declared.opening.Opening.{Opening}
+use Rattle.mg_overlays.specs.Overlays.{LaysBatch, laid, left_state}
+use Rattle.mg_pip.specs.PipPage.{bits, pip_checks}
+use Rattle.mg_pointer.specs.PointerPage.{next_in}
+use Rattle.mg_tip.specs.TipPage.{places, tip_checks}
+use Rattle.mg_image.specs.Form.{Form, Pages}
+use Rattle.mg_image.specs.Held.{AreChanges, IsHeld}
+use Rattle.mg_image.specs.Indexes.{AreTrees, EachPage}
+use Rattle.mg_image.specs.Inventory.{header_of, inventory_page, is_used, last_sequence, next_of, tip_page}
+use Rattle.mg_image.specs.Reached.{linked_pages, tips_below, tips_of}
+use Rattle.mg_image.specs.RecordRules.{Facts, committed_in}
+use Rattle.mg_image.specs.Records.{Reading}
+use Rattle.mg_image.specs.Sound.{HasInventory, HasRegion, HasTransactions, IsSoundBy, facts_by}
+use Rattle.mg_image.specs.Tables.{EachStand, Has, IsOnce, Layout, Stand, pages_of, stands_of}
+use Rattle.mg_image_overlays.specs.DataPages.{all_passes, byte_blank, kind_of}
+use Rattle.mg_image_overlays.specs.Fronts.{HasFronts}
+use Rattle.mg_image_overlays.specs.Grow.{last_is, tip_is}
+use Rattle.mg_image_overlays.specs.Growth.{has_back, has_front}
+use Rattle.mg_image_overlays.specs.Kinds.{HasNoSequences, IsLinked, linked_is, pointers_of}
+use Rattle.mg_image_overlays.specs.KeptImages.{AreFrontStands, IsKept, StandsBehind}
+use Rattle.mg_image_overlays.specs.Reach.{once_apart, once_back, once_front}
+use Rattle.mg_image_overlays.specs.Rest.{div_grows}
+use Rattle.mg_tree_overlays.specs.BatchLaws.{used_as}
+use Rattle.mg_tree_overlays.specs.TreeBatches.{inventory_of}
+use Rattle.mg_entry_overlays.specs.EntryBatches.{EntriesOf, IsEntryPlace, LaysEntries}
+use Rattle.mg_entry_overlays.specs.Laws.{EntriesKeep}
+use Rattle.mg_entry_overlays.specs.Retreed.{LeavesTables, Trees, held_pages, retree, retreed, trees_pages}
+use Rattle.mg_entry_overlays.specs.RetreedLaws.{as_retreed, first_of, front_held, fronts_retreed, held_same, pointer_held, pointers_same, rest_of}
+use Rattle.mg_tree_overlays.specs.TreeOnceLaws.{once_both}
+use Rattle.mg_entry_overlays.specs.StandsOnceLaws.{both_once, held_in, held_kind, held_once, image_once, pages_either, trees_kind}
+use Rattle.mg_entry_overlays.specs.TreesKeptLaws.{StandsKept, stands_kept}
+use Rattle.mg_entry_overlays.specs.TreesSoundLaws.{facts_same, header_as, retreed_sound, tip_kept}
+
+-- each page of the page inventory has its own bit
+abbrev HasOwnBits : ℕ → Type 0
+HasOwnBits size = (region : ℕ) → inventory_of size (inventory_page size region) ≡ inventory_page size region
+
+own_bits : (size : ℕ) → 1 < bits size → HasOwnBits size
+own_bits size most region = ap (inventory_page size) (div-mul-add region (bits size) 1 most)
+
+-- ---- the pages of transactions
+
+tips_three : (size : ℕ) (pages : Pages) → HasTransactions size pages → (n : ℕ) → n ≤ last_sequence size pages + 1
+    → (m : ℕ) → Has (tips_below size pages n) m → byte (pages m) 0 ≡ 3
+unfolding tip_checks
+tips_three size pages transactions zero below m is = absurd is
+tips_three size pages transactions (suc n) below m (inl e) = ap (λ (j : ℕ). byte (pages j) 0) e
+    ∙ kind_of (pages (tip_page size pages n)) (tip_page size pages n) 3 0 n _
+    (transactions.each n (omega (arith, below))).fields
+tips_three size pages transactions (suc n) below m (inr more) =
+    tips_three size pages transactions n (omega (arith, below)) m more
+
+-- ---- no page stands twice
+
+module _ (form : Form) (none : HasNoSequences form) (size : ℕ) (state : ℕ → TxState) (old new : Pages) (layout : Layout)
+    (r : Reading) (sound : IsSoundBy form size state old layout r) (keeps : LeavesTables size old new layout)
+    (first : Trees) (more : List Trees)
+    (trees : EachStand (λ s. AreTrees size new s.table.pointer.0 s.table.indexes s.trees)
+    (stands_of (retreed layout first more)))
+    (trees_once : IsOnce (trees_pages (stands_of (retreed layout first more)))) where
+  no_sequence : (ns : List ℕ) → EachPage (λ n. form.sequence_page (old n) n) ns → (m : ℕ) → Has ns m → ⊥
+  no_sequence [] each m is = is
+  no_sequence (n ∷ ns) each m is = none (old n) n each.0
+
+  pub sequences_still : (ns : List ℕ) → EachPage (λ n. form.sequence_page (old n) n) ns
+      → EachPage (λ n. form.sequence_page (new n) n) ns
+  sequences_still [] each = tt
+  sequences_still (n ∷ ns) each = absurd (none (old n) n each.0)
+
+  stands_once : IsOnce (flat_map pages_of (stands_of layout))
+  stands_once = once_back (tips_of size old) (flat_map pages_of (stands_of layout))
+      (once_front (tips_of size old ++ flat_map pages_of (stands_of layout)) layout.sequences sound.once)
+
+  held_is : held_pages (stands_of (retreed layout first more)) ≡ held_pages (stands_of layout)
+  held_is = held_same (stands_of layout) (first ∷ more)
+
+  to_held : (m : ℕ) → Has (held_pages (stands_of (retreed layout first more))) m → Has (held_pages (stands_of layout)) m
+  to_held m is = subst (λ (ns : List ℕ). Has ns m) held_is is
+
+  tree_new : (m : ℕ) → Has (trees_pages (stands_of (retreed layout first more))) m → byte (new m) 0 ≡ 7
+  tree_new m is = trees_kind form.in_primary size new (stands_of (retreed layout first more)) trees m is
+
+  kinds_apart : (m : ℕ) → Has (held_pages (stands_of (retreed layout first more))) m
+      → Has (trees_pages (stands_of (retreed layout first more))) m → ⊥
+  kinds_apart m here there = at (held_kind form.in_primary size old (stands_of layout) sound.tables m (to_held m here))
+    where
+      stays : byte (new m) 0 ≡ byte (old m) 0
+      stays = ap (λ (page : List ℕ). byte page 0) (keeps.tables m (to_held m here))
+
+      at : (byte (old m) 0 ≡ 4) ⊎ (byte (old m) 0 ≡ 5) → ⊥
+      at (inl four) = let seven = tree_new m there in let same = stays in omega (arith, four, seven, same)
+      at (inr five) = let seven = tree_new m there in let same = stays in omega (arith, five, seven, same)
+
+  pages_once : IsOnce (flat_map pages_of (stands_of (retreed layout first more)))
+  pages_once = both_once (stands_of (retreed layout first more))
+      (subst (λ (ns : List ℕ). IsOnce ns) (sym held_is) (held_once (stands_of layout) stands_once)) trees_once kinds_apart
+
+  tips_apart : (m : ℕ) → Has (tips_of size old) m → Has (flat_map pages_of (stands_of (retreed layout first more))) m → ⊥
+  tips_apart m tip is = at (pages_either (stands_of (retreed layout first more)) m is)
+    where
+      at : Has (held_pages (stands_of (retreed layout first more))) m
+          ⊎ Has (trees_pages (stands_of (retreed layout first more))) m → ⊥
+      at (inl held) = once_apart (tips_of size old) (flat_map pages_of (stands_of layout)) m
+          (once_front (tips_of size old ++ flat_map pages_of (stands_of layout)) layout.sequences sound.once) tip
+          (held_in (stands_of layout) m (to_held m held))
+      at (inr tree) =
+          let three = tips_three size old sound.transactions (last_sequence size old + 1) (omega arith) m tip in
+          let same : byte (new m) 0 ≡ byte (old m) 0 = ap (λ (page : List ℕ). byte page 0) (keeps.tips m tip) in
+          let seven = tree_new m tree in omega (arith, three, same, seven)
+
+  pub whole_once : IsOnce (tips_of size old ++ flat_map pages_of (stands_of (retreed layout first more))
+      ++ layout.sequences)
+  whole_once = once_both (tips_of size old ++ flat_map pages_of (stands_of (retreed layout first more))) layout.sequences
+      (once_both (tips_of size old) (flat_map pages_of (stands_of (retreed layout first more)))
+      (once_front (tips_of size old) (flat_map pages_of (stands_of layout))
+      (once_front (tips_of size old ++ flat_map pages_of (stands_of layout)) layout.sequences sound.once)) pages_once tips_apart)
+      (once_back (tips_of size old ++ flat_map pages_of (stands_of layout)) layout.sequences sound.once)
+      (λ m here there. no_sequence layout.sequences sound.sequences m there)
+
+-- ---- what the batch leaves
+
+module _ (form : Form) (none : HasNoSequences form) (size : ℕ) (own : HasOwnBits size) (o : Opening) (h : Entries)
+    (state : ℕ → TxState) (pool changed : Pages) (batch : ℕ → Option (List ℕ)) (orders : Orders)
+    (is : LaysEntries form size state pool changed batch orders) (set_ : PageSet) (image : Pages)
+    (lays : LaysBatch pool changed batch orders set_ image) (kept : IsKept form size o h state pool image) where
+  abbrev last : Pages
+  last = laid batch set_ image
+
+  -- a page that is linked is none of those that change
+  no_place : (m : ℕ) → is_used size pool m ≡ true → 3 ≤ byte (pool m) 0 → byte (pool m) 0 ≢ 7 → IsEntryPlace size pool m → ⊥
+  no_place m used least other (inl (region, same, below)) = at (kept.pool_sound.inventory region below)
+    where
+      at : HasRegion size pool (inventory_page size region) region → ⊥
+      at (inl empty) =
+          let zero_ : byte (pool m) 0 ≡ 0 = ap (λ (k : ℕ). byte (pool k) 0) same
+          ∙ (ap (λ (page : List ℕ). byte page 0) empty ∙ byte_blank size) in
+          omega (arith, zero_, least)
+      at (inr wanted) =
+          let two : byte (pool m) 0 ≡ 2 = ap (λ (k : ℕ). byte (pool k) 0) same
+          ∙ kind_of (pool (inventory_page size region)) (inventory_page size region) 2 0 region []
+          (all_passes (pip_checks (pool (inventory_page size region)) (inventory_page size region) region) wanted.fields) in
+          omega (arith, two, least)
+  no_place m used least other (inr (inl seven)) = other seven
+  no_place m used least other (inr (inr unused)) = let both_ : true ≡ false = sym used ∙ unused in absurd cc
+
+  -- of the pool
+  pool_same : (m : ℕ) → (IsEntryPlace size pool m → ⊥) → changed m ≡ pool m
+  pool_same m off = at (is.only m)
+    where
+      at : (changed m ≡ pool m) ⊎ IsEntryPlace size pool m → changed m ≡ pool m
+      at (inl same) = same
+      at (inr place) = absurd (off place)
+
+  -- a page of the image has its new content, or its old one
+  each_page : (m : ℕ) → ((last m ≡ changed m) × (image m ≡ pool m)) ⊎ (last m ≡ image m)
+  each_page m = at (set_ m) refl
+    where
+      at : (b : Bool) → set_ m ≡ b → ((last m ≡ changed m) × (image m ≡ pool m)) ⊎ (last m ≡ image m)
+      at true in_set = inl (lays.is m in_set, lays.was m in_set)
+      at false out = inr (ap (λ (b : Bool). unwrap_or (if b then batch m else None) (image m)) out)
+
+  -- of the image
+  image_same : (m : ℕ) → (image m ≡ pool m → IsEntryPlace size pool m → ⊥) → last m ≡ image m
+  image_same m off = at (each_page m)
+    where
+      by : last m ≡ changed m → image m ≡ pool m → (changed m ≡ pool m) ⊎ IsEntryPlace size pool m → last m ≡ image m
+      by now_ was_ (inl same) = now_ ∙ (same ∙ sym was_)
+      by now_ was_ (inr place) = absurd (off was_ place)
+
+      at : ((last m ≡ changed m) × (image m ≡ pool m)) ⊎ (last m ≡ image m) → last m ≡ image m
+      at (inl (now_, was_)) = by now_ was_ (is.only m)
+      at (inr same) = same
+
+  last_used : (m : ℕ) → is_used size image m ≡ true → is_used size last m ≡ true
+  last_used m used = at (each_page (inventory_of size m))
+    where
+      at : ((last (inventory_of size m) ≡ changed (inventory_of size m)) × (image (inventory_of size m) ≡ pool (inventory_of size m)))
+          ⊎ (last (inventory_of size m) ≡ image (inventory_of size m)) → is_used size last m ≡ true
+      at (inl (now_, was_)) = used_as size changed last m now_
+          ∙ is.used m (sym (used_as size pool image m was_) ∙ used)
+      at (inr same) = used_as size image last m same ∙ used
+
+  within : (m : ℕ) → is_used size last m ≡ true → is_used size changed m ≡ true
+  within m used = at (each_page (inventory_of size m))
+    where
+      at : ((last (inventory_of size m) ≡ changed (inventory_of size m)) × (image (inventory_of size m) ≡ pool (inventory_of size m)))
+          ⊎ (last (inventory_of size m) ≡ image (inventory_of size m)) → is_used size changed m ≡ true
+      at (inl (now_, was_)) = sym (used_as size changed last m now_) ∙ used
+      at (inr same) = is.used m (kept.behind.used m (sym (used_as size image last m same) ∙ used))
+
+  last_lengths : (m : ℕ) → length (last m) ≡ length (image m)
+  last_lengths m = at (each_page m)
+    where
+      at : ((last m ≡ changed m) × (image m ≡ pool m)) ⊎ (last m ≡ image m) → length (last m) ≡ length (image m)
+      at (inl (now_, was_)) = ap (λ (page : List ℕ). length page) now_
+          ∙ (is.lengths m ∙ sym (ap (λ (page : List ℕ). length page) was_))
+      at (inr same) = ap (λ (page : List ℕ). length page) same
+
+  last_inventory : HasInventory size last
+  last_inventory region below = at (each_page (inventory_page size region))
+    where
+      new_ : last (inventory_page size region) ≡ changed (inventory_page size region) → HasRegion size changed (inventory_page size region) region → HasRegion size last (inventory_page size region) region
+      new_ same (inl empty) = inl (same ∙ empty)
+      new_ same (inr wanted) = inr (record {
+        below = wanted.below;
+        used = used_as size changed last (inventory_page size region)
+            (subst (λ (k : ℕ). last k ≡ changed k) (sym (own region)) same) ∙ wanted.used;
+        fields = rw same wanted.fields;
+      })
+
+      old_ : last (inventory_page size region) ≡ image (inventory_page size region) → HasRegion size image (inventory_page size region) region → HasRegion size last (inventory_page size region) region
+      old_ same (inl empty) = inl (same ∙ empty)
+      old_ same (inr wanted) = inr (record {
+        below = wanted.below;
+        used = last_used (inventory_page size region) wanted.used;
+        fields = rw same wanted.fields;
+      })
+
+      at : ((last (inventory_page size region) ≡ changed (inventory_page size region)) × (image (inventory_page size region) ≡ pool (inventory_page size region))) ⊎ (last (inventory_page size region) ≡ image (inventory_page size region)) → HasRegion size last (inventory_page size region) region
+      at (inl (now_, was_)) = new_ now_ (is.inventory region below)
+      at (inr same) = old_ same (kept.sound.inventory region below)
+
+  -- ---- the tables stay
+
+  -- page 0 is the header's
+  header_off : (pages : Pages) → byte (pages 0) 0 ≡ 1 → byte (pool 0) 0 ≡ byte (pages 0) 0 → is_used size pool 0 ≡ true
+      → IsEntryPlace size pool 0 → ⊥
+  header_off pages one same used (inl (region, zero_, below)) = omega (arith, zero_)
+  header_off pages one same used (inr (inl seven)) = omega (arith, one, same, seven)
+  header_off pages one same used (inr (inr unused)) = let both_ : true ≡ false = sym used ∙ unused in absurd cc
+
+  header_kind : (pages : Pages) (a : Layout) (r : Reading) → IsSoundBy form size state pages a r → byte (pages 0) 0 ≡ 1
+  header_kind pages a r sound = kind_of (pages 0) 0 1 0 0 _ sound.header.fields
+
+  pool_leaves : LeavesTables size pool changed kept.of_pool
+  pool_leaves = record {
+    header_page = pool_same 0 (header_off pool (header_kind pool kept.of_pool kept.in_pool kept.pool_sound) refl
+        kept.pool_sound.header.used);
+    tips = λ m tip. pool_same m (no_place m (linked m (tip_linked m tip)).used (linked m (tip_linked m tip)).kind
+        (λ seven. let three = tips_three size pool kept.pool_sound.transactions (last_sequence size pool + 1)
+        (omega arith) m tip in omega (arith, three, seven)));
+    tables = λ m held. pool_same m (no_place m (linked m (held_linked m held)).used (linked m (held_linked m held)).kind
+        (λ seven. by m seven (held_kind form.in_primary size pool (stands_of kept.of_pool) kept.pool_sound.tables m held)));
+    used = is.used;
+    lengths = is.lengths;
+    inventory = is.inventory;
+  }
+    where
+      linked : (m : ℕ) → Has (linked_pages size pool kept.of_pool) m → IsLinked size pool (pointers_of (stands_of kept.of_pool)) m
+      linked = linked_is form size state pool kept.of_pool kept.in_pool none kept.pool_sound
+
+      tip_linked : (m : ℕ) → Has (tips_of size pool) m → Has (linked_pages size pool kept.of_pool) m
+      tip_linked m tip = has_front (tips_of size pool ++ flat_map pages_of (stands_of kept.of_pool)) kept.of_pool.sequences m
+          (has_front (tips_of size pool) (flat_map pages_of (stands_of kept.of_pool)) m tip)
+
+      held_linked : (m : ℕ) → Has (held_pages (stands_of kept.of_pool)) m → Has (linked_pages size pool kept.of_pool) m
+      held_linked m held = has_front (tips_of size pool ++ flat_map pages_of (stands_of kept.of_pool)) kept.of_pool.sequences m
+          (has_back (tips_of size pool) (flat_map pages_of (stands_of kept.of_pool)) m (held_in (stands_of kept.of_pool) m held))
+
+      by : (m : ℕ) → byte (pool m) 0 ≡ 7 → (byte (pool m) 0 ≡ 4) ⊎ (byte (pool m) 0 ≡ 5) → ⊥
+      by m seven (inl four) = omega (arith, seven, four)
+      by m seven (inr five) = omega (arith, seven, five)
+
+  image_leaves : LeavesTables size image last kept.layout
+  image_leaves = record {
+    header_page = image_same 0 (λ same. header_off image (header_kind image kept.layout kept.reading kept.sound)
+        (sym (ap (λ (page : List ℕ). byte page 0) same)) kept.pool_sound.header.used);
+    tips = λ m tip. image_same m (λ same. off m same (tip_linked m tip) (λ seven.
+        let three = tips_three size image kept.sound.transactions (last_sequence size image + 1) (omega arith) m tip in
+        omega (arith, three, seven)));
+    tables = λ m held. image_same m (λ same. off m same (held_linked m held) (λ seven.
+        by m seven (held_kind form.in_primary size image (stands_of kept.layout) kept.sound.tables m held)));
+    used = last_used;
+    lengths = last_lengths;
+    inventory = last_inventory;
+  }
+    where
+      off : (m : ℕ) → image m ≡ pool m → Has (linked_pages size image kept.layout) m → byte (image m) 0 ≢ 7
+          → IsEntryPlace size pool m → ⊥
+      off m same has_ other =
+          let linked = linked_is form size state image kept.layout kept.reading none kept.sound m has_ in
+          no_place m (kept.behind.used m linked.used) (subst (λ (page : List ℕ). 3 ≤ byte page 0) same linked.kind)
+          (subst (λ (page : List ℕ). byte page 0 ≢ 7) same other)
+
+      tip_linked : (m : ℕ) → Has (tips_of size image) m → Has (linked_pages size image kept.layout) m
+      tip_linked m tip = has_front (tips_of size image ++ flat_map pages_of (stands_of kept.layout)) kept.layout.sequences m
+          (has_front (tips_of size image) (flat_map pages_of (stands_of kept.layout)) m tip)
+
+      held_linked : (m : ℕ) → Has (held_pages (stands_of kept.layout)) m → Has (linked_pages size image kept.layout) m
+      held_linked m held = has_front (tips_of size image ++ flat_map pages_of (stands_of kept.layout)) kept.layout.sequences m
+          (has_back (tips_of size image) (flat_map pages_of (stands_of kept.layout)) m (held_in (stands_of kept.layout) m held))
+
+      by : (m : ℕ) → byte (image m) 0 ≡ 7 → (byte (image m) 0 ≡ 4) ⊎ (byte (image m) 0 ≡ 5) → ⊥
+      by m seven (inl four) = omega (arith, seven, four)
+      by m seven (inr five) = omega (arith, seven, five)
+
+  -- ---- the trees
+
+  its : EntriesOf size batch orders pool changed kept.of_pool
+  its = is.trees kept.of_pool kept.in_pool kept.pool_sound
+
+  after : StandsKept size batch orders pool changed set_ image lays (stands_of kept.of_pool) (stands_of kept.layout)
+      (its.first ∷ its.ends)
+  after = stands_kept size batch orders pool changed set_ image lays form.in_primary (stands_of kept.of_pool)
+      (stands_of kept.layout) (its.first ∷ its.ends) kept.behind.stands kept.pool_sound.tables kept.sound.tables
+      kept.behind.trees its.rows
+
+  abbrev of_pool_now : Layout
+  of_pool_now = retreed kept.of_pool its.first its.ends
+
+  abbrev layout_now : Layout
+  layout_now = retreed kept.layout (first_of after.now) (rest_of after.now)
+
+  stands_now : stands_of layout_now ≡ retree (stands_of kept.layout) after.now
+  stands_now = as_retreed kept.layout after.now
+
+  trees_now : EachStand (λ s. AreTrees size last s.table.pointer.0 s.table.indexes s.trees) (stands_of layout_now)
+  trees_now = subst (λ (ss : List Stand). EachStand (λ s. AreTrees size last s.table.pointer.0 s.table.indexes s.trees) ss)
+      (sym stands_now) after.are
+
+  behind_now : StandsBehind changed last (stands_of of_pool_now) (stands_of layout_now)
+  behind_now = subst (λ (ss : List Stand). StandsBehind changed last (stands_of of_pool_now) ss) (sym stands_now) after.behind
+
+  pool_sound_now : IsSoundBy form size state changed of_pool_now kept.in_pool
+  pool_sound_now = retreed_sound form size state pool changed kept.of_pool kept.in_pool kept.pool_sound pool_leaves
+      its.first its.ends after.of_pool after.found_pool
+      (whole_once form none size state pool changed kept.of_pool kept.in_pool kept.pool_sound pool_leaves its.first its.ends
+      after.of_pool its.once)
+      (sequences_still form none size state pool changed kept.of_pool kept.in_pool kept.pool_sound pool_leaves its.first
+      its.ends after.of_pool its.once kept.of_pool.sequences kept.pool_sound.sequences)
+
+  trees_once_now : IsOnce (trees_pages (stands_of layout_now))
+  trees_once_now = image_once size changed last (stands_of of_pool_now) (stands_of layout_now) trees_now behind_now its.once
+
+  sound_now : IsSoundBy form size state last layout_now kept.reading
+  sound_now = retreed_sound form size state image last kept.layout kept.reading kept.sound image_leaves
+      (first_of after.now) (rest_of after.now) trees_now after.found
+      (whole_once form none size state image last kept.layout kept.reading kept.sound image_leaves (first_of after.now)
+      (rest_of after.now) trees_now trees_once_now)
+      (sequences_still form none size state image last kept.layout kept.reading kept.sound image_leaves
+      (first_of after.now) (rest_of after.now) trees_now trees_once_now kept.layout.sequences kept.sound.sequences)
+
+  -- ---- so it is kept
+
+  image_header : header_of last ≡ header_of image
+  image_header = header_as form size state image last kept.layout kept.reading kept.sound image_leaves
+
+  pool_header : header_of changed ≡ header_of pool
+  pool_header = header_as form size state pool changed kept.of_pool kept.in_pool kept.pool_sound pool_leaves
+
+  image_facts : facts_by state last layout_now ≡ facts_by state image kept.layout
+  image_facts = facts_same form size state image last kept.layout kept.reading kept.sound image_leaves
+      (first_of after.now) (rest_of after.now)
+
+  pool_facts : facts_by state changed of_pool_now ≡ facts_by state pool kept.of_pool
+  pool_facts = facts_same form size state pool changed kept.of_pool kept.in_pool kept.pool_sound pool_leaves its.first its.ends
+
+  module _ (old new : Pages) (a : Layout) (r : Reading) (sound : IsSoundBy form size state old a r)
+      (leaves : LeavesTables size old new a) where
+    tip_page_is : (sequence : ℕ) → sequence ≤ last_sequence size old → tip_page size new sequence ≡ tip_page size old sequence
+    tip_page_is = tip_is size old new leaves.header_page leaves.used leaves.lengths sound.header sound.transactions
+        (tip_kept form size state old new a r sound leaves)
+
+    tip_content_is : (sequence : ℕ) → sequence ≤ last_sequence size old
+        → new (tip_page size new sequence) ≡ old (tip_page size old sequence)
+    tip_content_is sequence below = ap new (tip_page_is sequence below)
+        ∙ tip_kept form size state old new a r sound leaves sequence below
+
+    last_sequence_is : last_sequence size new ≡ last_sequence size old
+    last_sequence_is = last_is size old new leaves.header_page leaves.used leaves.lengths sound.header sound.transactions
+        (tip_kept form size state old new a r sound leaves)
+
+  chained : (m : ℕ) → Has (pointers_of (stands_of layout_now)) m → next_in (last m) ≢ 0 → last m ≡ changed m
+  chained m is_ some = stays ∙ (kept.behind.chained m was (subst (λ (page : List ℕ). next_in page ≢ 0) stays some)
+      ∙ sym (pool_leaves.tables m (front_held (stands_of kept.layout) (stands_of kept.of_pool) kept.behind.stands m was)))
+    where
+      was : Has (pointers_of (stands_of kept.layout)) m
+      was = subst (λ (ns : List ℕ). Has ns m) (ap pointers_of stands_now ∙ pointers_same (stands_of kept.layout) after.now) is_
+
+      stays : last m ≡ image m
+      stays = image_leaves.tables m (pointer_held (stands_of kept.layout) m was)
+
+  last_within : last_sequence size image ≤ last_sequence size pool
+  last_within = div_grows (next_of image - 1) (next_of pool - 1) (places size) (let next = kept.behind.next in omega arith)
+
+  tips : (sequence : ℕ) → sequence ≤ last_sequence size image
+      → (tip_page size last sequence ≡ tip_page size changed sequence)
+      × (last (tip_page size last sequence) ≡ changed (tip_page size changed sequence))
+  tips sequence below =
+      let inside : sequence ≤ last_sequence size pool = omega (arith, below, last_within) in (
+        tip_page_is image last kept.layout kept.reading kept.sound image_leaves sequence below
+            ∙ ((kept.behind.tips sequence below).0
+            ∙ sym (tip_page_is pool changed kept.of_pool kept.in_pool kept.pool_sound pool_leaves sequence inside)),
+        tip_content_is image last kept.layout kept.reading kept.sound image_leaves sequence below
+            ∙ ((kept.behind.tips sequence below).1
+            ∙ sym (tip_content_is pool changed kept.of_pool kept.in_pool kept.pool_sound pool_leaves sequence inside)),
+      )
+
+  pub entries_kept : IsKept form size o h state changed (laid batch set_ image)
+  entries_kept = record {
+    of_pool = of_pool_now;
+    in_pool = kept.in_pool;
+    layout = layout_now;
+    reading = kept.reading;
+    sound = sound_now;
+    pool_sound = pool_sound_now;
+    behind = record {
+      next = subst (λ (h : Header). h.next.0 ≤ next_of changed) (sym image_header)
+          (subst (λ (h : Header). next_of image ≤ h.next.0) (sym pool_header) kept.behind.next);
+      used = within;
+      stands = subst (λ (ss : List Stand). AreFrontStands ss (stands_of of_pool_now)) (sym stands_now)
+          (fronts_retreed (stands_of kept.layout) (stands_of kept.of_pool) after.now (its.first ∷ its.ends)
+          kept.behind.stands);
+      chained = chained;
+      tips = λ sequence below. tips sequence (subst (λ (m : ℕ). sequence ≤ m)
+          (last_sequence_is image last kept.layout kept.reading kept.sound image_leaves) below);
+      trees = behind_now;
+    };
+    fronts = subst (λ (f : Facts). HasFronts f (facts_by state last layout_now) kept.in_pool kept.reading)
+        (sym pool_facts) (subst (λ (g : Facts). HasFronts (facts_by state pool kept.of_pool) g
+        kept.in_pool kept.reading) (sym image_facts) kept.fronts);
+    rows = kept.rows;
+    held = subst (λ (g : Facts). IsHeld g (committed_in g) kept.reading kept.rows) (sym image_facts) kept.held;
+    rows_are = kept.rows_are;
+    changes = kept.changes;
+    changed = subst (λ (g : Facts). AreChanges g kept.reading kept.changes) (sym image_facts) kept.changed;
+    changes_are = kept.changes_are;
+  }
+
+pub entries_keep : (form : Form) → HasNoSequences form → EntriesKeep form
+entries_keep form none size o h state pool changed batch orders most each chosen set_ image lays pool_good good =
+    entries_kept form none size (own_bits size most) o h (left_state chosen state) pool changed batch orders
+    (each chosen) set_ image lays good

@@ -1,0 +1,9 @@
+pub mod Retreed
+pub mod EntryBatches
+pub mod Laws
+pub mod RetreedLaws
+pub mod TreesSoundLaws
+pub mod TreesKeptLaws
+pub mod StandsOnceLaws
+pub mod EntriesKeptLaws
+pub mod GrownOnceLaws

@@ -1,0 +1,61 @@
+-- The laws: an insertion into an index is a batch of entries, and takes few pages. The other files prove them.
+use Rattle.std.specs.Prelude.{◌≡◌, ◌+◌, ℕ, Bool, List, length}
+use Rattle.mg_base.specs.declared.geometry.Geometry.{Geometry}
+use Rattle.mg_base.specs.declared.transaction.TxState.{TxState}
+use Rattle.mg_model.specs.declared.table.Table.{Table}
+use Rattle.mg_node.specs.declared.entry.Entry.{Entry}
+use Rattle.mg_node.specs.NodePage.{level_in}
+use Rattle.mg_model.specs.History.{Entries}
+use Rattle.mg_model.specs.declared.opening.Opening.{Opening}
+use Rattle.mg_overlays.specs.Overlays.{KeepsLaidAlways, left_state}
+use Rattle.mg_pool.specs.Batch.{Changed, content_in, lists}
+use Rattle.mg_image.specs.Form.{Form, Pages}
+use Rattle.mg_image.specs.Indexes.{IsTree}
+use Rattle.mg_image.specs.Sound.{HasInventory}
+use Rattle.mg_image_overlays.specs.KeptImages.{keeping}
+use Rattle.mg_image_overlays.specs.Whose.{IsTableFor}
+use Rattle.mg_space.specs.Taking.{IsGeometry}
+use Rattle.mg_btree.specs.Inserting.{PutsAndTakes}
+use Rattle.mg_free_pages.specs.FreePages.{TakesAtMost}
+use Rattle.mg_index_overlays.specs.IndexBatches.{PutsChanges}
+use Rattle.mg_entry_overlays.specs.EntryBatches.{LaysEntries}
+use Rattle.mg_entry_ties.specs.IndexPlaces.{HasRoot, IsIndexFor}
+
+-- An insertion into an index, as mg_btree makes it, lays entries: of each layout of the image the trees change by rows
+-- of steps, the index by the entry that is added, the others not at all.
+abbrev pub InsertionsLay : Form → Type 0
+InsertionsLay form = (g : Geometry) (state : ℕ → TxState) (old new : Pages) (earlier batch : Changed)
+    (owner root : ℕ) (levels : List (List ℕ)) (e : Entry) → IsGeometry g
+    → IsTree g.size old owner root levels → PutsAndTakes g old new earlier batch owner root levels e
+    → PutsChanges (content_in batch.pages) old new → ((m : ℕ) → length (old m) ≡ g.size)
+    → HasInventory g.size old → IsIndexFor form g.size state old owner root
+    → LaysEntries form g.size state old new (content_in batch.pages) (lists batch.orders)
+
+-- So it keeps every overlay, whoever counts as what, where under each choice the index is one for each layout.
+abbrev pub InsertionsKeep : Form → Type 0
+InsertionsKeep form = (g : Geometry) (o : Opening) (h : Entries) (state : ℕ → TxState) (old new : Pages)
+    (earlier batch : Changed) (owner root : ℕ) (levels : List (List ℕ)) (e : Entry) → IsGeometry g
+    → IsTree g.size old owner root levels → PutsAndTakes g old new earlier batch owner root levels e
+    → PutsChanges (content_in batch.pages) old new → ((m : ℕ) → length (old m) ≡ g.size)
+    → HasInventory g.size old
+    → ((chosen : ℕ → Bool) → IsIndexFor form g.size (left_state chosen state) old owner root)
+    → KeepsLaidAlways (keeping form g.size o h) (keeping form g.size o h) state old new (content_in batch.pages)
+    (lists batch.orders)
+
+-- an index of a table that stands in each layout, or was made by one that counts as dead, is one for each
+abbrev pub TablesHaveIndexes : Form → Type 0
+TablesHaveIndexes form = (size by : ℕ) (state : ℕ → TxState) (pages : Pages) (table : Table) (root : ℕ)
+    → IsTableFor form size by state pages table → HasRoot table.indexes root → (chosen : ℕ → Bool)
+    → IsIndexFor form size (left_state chosen state) pages table.pointer.0 root
+
+-- an insertion takes at most a page for each level of the tree below the root's, and two for the root
+abbrev pub InsertionsTakeFew : Type 0
+InsertionsTakeFew = (g : Geometry) (old new : Pages) (earlier batch : Changed) (owner root : ℕ)
+    (levels : List (List ℕ)) (e : Entry) → IsGeometry g → IsTree g.size old owner root levels
+    → PutsAndTakes g old new earlier batch owner root levels e → TakesAtMost g old new (level_in (old root) + 2)
+
+-- so at most 18 pages are free before it that are not afterwards
+abbrev pub InsertionsTakeEighteen : Type 0
+InsertionsTakeEighteen = (g : Geometry) (old new : Pages) (earlier batch : Changed) (owner root : ℕ)
+    (levels : List (List ℕ)) (e : Entry) → IsGeometry g → IsTree g.size old owner root levels
+    → PutsAndTakes g old new earlier batch owner root levels e → TakesAtMost g old new 18

@@ -1,0 +1,20 @@
+//! What insertions into indexes are to overlays and to free pages. Each function does nothing: its contract is the law.
+
+ghost use Rattle.mg_image.specs.Form.{packed_form};
+ghost use Rattle.mg_entry_ties.specs.Laws.{InsertionsKeep, InsertionsLay, InsertionsTakeEighteen};
+ghost use Rattle.mg_entry_ties.specs.Laws.{InsertionsTakeFew, TablesHaveIndexes};
+ghost use Rattle.mg_space.specs.FreePages.{TakingKeepsRegions};
+
+/// An insertion into an index is a batch of entries, so it keeps every overlay; and an index of a table is one for each
+/// layout.
+pub fn insertions_lay()
+    ensures lay { InsertionsLay packed_form }
+    ensures keep { InsertionsKeep packed_form }
+    ensures indexes { TablesHaveIndexes packed_form }
+{}
+
+/// An insertion takes at most a page for each level, and two for the root: eighteen at most.
+pub fn insertions_take_few()
+    ensures few { TakingKeepsRegions → InsertionsTakeFew }
+    ensures eighteen { TakingKeepsRegions → InsertionsTakeEighteen }
+{}

@@ -1,0 +1,4 @@
+pub mod KeyEntries
+pub mod Laws
+pub mod KeyLaws
+pub mod LivingRowLaws
