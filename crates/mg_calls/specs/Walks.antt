@@ -3,13 +3,14 @@ use Rattle.std.specs.Prelude.{◌≡◌, ℕ, ◌<◌, List, [], ◌∷◌, ◌+
 use Rattle.mg_base.specs.declared.transaction.TxState.TheVariants.{Active}
 use Rattle.mg_model.specs.declared.opening.Opening.{Opening}
 use Rattle.mg_model.specs.declared.refusal.Refusal.{Refusal}
+use Rattle.mg_value.specs.declared.shape.Shape.{Shape}
 use Rattle.mg_value.specs.declared.value.Value.{Value}
 use Rattle.mg_model.specs.Changes.{Cells, KeyedRows, rows_of}
 use Rattle.mg_model.specs.History.{Entries}
 use Rattle.mg_model.specs.Machine.{state_of, view}
 use Rattle.mg_records.specs.Adding.{IsRefused}
 use Rattle.mg_records.specs.Meaning.{Means}
-use Rattle.mg_records.specs.Reading.{IsPlace}
+use Rattle.mg_records.specs.Reading.{IsPlace, StandsUnderKey}
 use Rattle.mg_calls.specs.declared.walking.Walk.{Walk}
 use Rattle.mg_calls.specs.declared.walking.Visit.{Visit}
 use Rattle.mg_calls.specs.declared.walking.Visit.TheVariants as visits
@@ -44,6 +45,12 @@ GoesOn m new o h t walk visited (Ok (visits.Record row)) = HasCome m new o h t w
 GoesOn m new o h t walk visited (Ok visits.End) =
     (state_of o h t ≡ Active) × IsPermutation visited (rows_of (view o h t) walk.table.name)
 GoesOn m new o h t walk visited (Err refusal) = IsRefused o h t refusal
+
+-- the row that a walk comes to may stand in its table, under its key
+abbrev pub ComesToFitting : Shape → Result Visit Refusal → Type 0
+ComesToFitting shape (Ok (visits.Record row)) = StandsUnderKey shape row
+ComesToFitting shape (Ok visits.End) = Unit {0}
+ComesToFitting shape (Err refusal) = Unit {0}
 
 -- a walk that comes to a record is nearer to its end, behind another place; else it stays
 abbrev pub Progresses : {R P : Type 0} → Means R P → R → R → ℕ → Walk P → Walk P

@@ -8,7 +8,7 @@ ghost use Rattle.mg_model.specs.History.{Entries};
 ghost use Rattle.mg_model.specs.Machine.{state_of};
 ghost use Rattle.mg_records.specs.Keeping.{FaultsAreTold, Reads, refusal_in};
 ghost use Rattle.mg_calls.specs.Quiet.{AreCalm, IsQuietAt};
-ghost use Rattle.mg_calls.specs.Walks.{IsOnItsWay, HasCome, GoesOn, Progresses};
+ghost use Rattle.mg_calls.specs.Walks.{ComesToFitting, IsOnItsWay, HasCome, GoesOn, Progresses};
 
 use mg_base::TxNo;
 use mg_model::{Refusal, Table};
@@ -54,6 +54,7 @@ where
     requires ready { IsOnItsWay R.meaning r.old t.0 walk.old }
     ensures ready { IsOnItsWay R.meaning r.new t.0 walk.new }
     ensures table { walk.new.table ≡ walk.old.table }
+    ensures fits { ComesToFitting walk.old.table.shape result }
     ensures progress { Progresses R.meaning r.old r.new t.0 walk.old walk.new result }
     ensures reads { Reads R.meaning r.old r.new (refusal_in result) (Some t.0) }
     ensures told { FaultsAreTold R.meaning r.old r.new (refusal_in result) }

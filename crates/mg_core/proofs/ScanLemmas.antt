@@ -1,5 +1,5 @@
 -- A walk over the records of a table.
-use Rattle.std.proofs.Common.{◌≡◌, ◌≤◌, inl, inr, true, ℕ, Option, None, Some, sym, ap, ◌∙◌, subst}
+use Rattle.std.proofs.Common.{◌≡◌, ◌≢◌, ◌≤◌, inl, inr, true, ℕ, Option, None, Some, sym, ap, ◌∙◌, subst}
 use Rattle.std.specs.Prelude.{Result, Ok, Err}
 use Rattle.mg_base.specs.Disk.{MayLeave, Meaning}
 use Rattle.mg_base.specs.Image.{Image}
@@ -7,6 +7,7 @@ use Rattle.mg_base.specs.declared.numbers.RecId.{RecId}
 use Rattle.mg_base.specs.declared.numbers.TxNo.{TxNo}
 use Rattle.mg_heap.specs.Reading.{ReadsData}
 use Rattle.mg_image.specs.Form.{Pages, Row}
+use Rattle.mg_image.specs.Records.{key_of}
 use Rattle.mg_model.specs.declared.refusal.Refusal.{Refusal}
 use Rattle.mg_model.specs.declared.table.Table.{Table}
 use Rattle.mg_pool.specs.Dirty.{DirtyPages}
@@ -14,6 +15,7 @@ use Rattle.mg_pool.specs.Fault.{StaysOnline, TellsFault}
 use Rattle.mg_pool.specs.Pool.{shown}
 use Rattle.mg_pool.specs.declared.fault.PoolFault.TheVariants as faults
 use Rattle.mg_pool.specs.declared.pool.Pool.{Pool}
+use Rattle.mg_records.specs.Reading.{StandsUnderKey}
 use Rattle.mg_records.specs.declared.found.Found.{Found}
 use Rattle.mg_seek.specs.Refusals.{RefusesVisit}
 use Rattle.mg_seek.specs.Versions.{wants}
@@ -27,12 +29,14 @@ use Rattle.mg_space.specs.declared.fault.SpaceFault.TheVariants as space
 use Rattle.mg_space.specs.declared.links.FireLinks.{FireLinks}
 use Rattle.mg_txlist.specs.TxList.{said}
 use Rattle.mg_txlist.specs.declared.list.TxList.{TxList}
+use Rattle.mg_value.specs.Rows.{RowFits}
 use Rattle.mg_value.specs.declared.value.Value.{Value}
+use Rattle.mg_value.specs.declared.value.Value.TheVariants.{Null}
 use Rattle.mg_core.specs.declared.parts.Core.{Core}
 use Rattle.mg_core.specs.declared.scanning.Place.{Place}
 use Rattle.mg_core.specs.Cores.{Continues}
 use Rattle.mg_core.specs.Refusing.{CountsFault, IsRefusal}
-use Rattle.mg_core.specs.Scanning.{GivesFound, HasKey, IsStepDamage, KeysRow, PlacesBehind, Scans, VisitsNext, WhyNoStep, early, no_key, no_page, no_visit, record_of, sequence_in}
+use Rattle.mg_core.specs.Scanning.{GivesFound, HasKey, IsStepDamage, KeysRow, PlacesBehind, Scans, VisitsNext, WhyNoStep, early, no_key, no_page, no_visit, record_of, sequence_in, unfit}
 
 abbrev pub CountsNow : {D : Type 0} → Meaning D → Type 0
 CountsNow {D} m = (disk : D) (t : ℕ) (c : Image) → m.tells disk ≡ true → t ≤ m.moment disk
@@ -108,8 +112,18 @@ module _ {D : Type 0} (m : Meaning D) (old : Core D) (mid : Pool D FireLinks) (l
             → IsStepDamage m new (said old.list) old.live t
             (shown old.store.dirty image) table after fault
         at (inl lacks) = no_key visit fault (its image tells) lacks
-        at (inr memory) = subst (IsStepDamage m new (said old.list) old.live t
+        at (inr (inl is)) = unfit visit fault (its image tells) is
+        at (inr (inr memory)) = subst (IsStepDamage m new (said old.list) old.live t
             (shown old.store.dirty image) table after) (sym memory) (no_visit (space.Pool faults.Memory) tt)
+
+-- a row that fits its table, with its key, which is not NULL
+pub keyed_so : (table : Table) (row : Row) (key : Value) → RowFits table.shape.columns row
+    → key ≡ key_of table row → key ≢ Null
+    → HasKey table (Some row) (Some (key, row)) × StandsUnderKey table.shape (Some (key, row))
+keyed_so table row key fits is not_null = (
+  ap (λ (k : Value). Some (k, row)) is,
+  (record { fits = fits; keyed = λ none. not_null (is ∙ none) }, sym is),
+)
 
 -- the next record was found, or it was not, and the fault is counted
 pub scan_ok : {D : Type 0} (m : Meaning D) (old new : Core D) (t : TxNo) (table : Table) (after : Option Place)
@@ -119,6 +133,7 @@ scan_ok m old new t table after found continues visits = record {
   continues = continues;
   gives = visits.0;
   behind = visits.1;
+  fits = visits.4;
   reads = visits.2;
   same = visits.3;
 }
@@ -157,21 +172,27 @@ scan_fails {D} m old mid new t table after fault refusal continues visits is cou
     same_shortages : mid.shortages ≡ old.shortages
     same_shortages = ap (λ (c : Core D). c.shortages) visits.3
 
--- a row without a key, or want of memory, is what a reading is refused for
+-- a row without a key or that does not fit, or want of memory, is what a reading is refused for
 pub keys_own : (table : Table) (page : ℕ) (row : Option Row) (fault : SpaceFault)
     → KeysRow table page row (Err fault) → ReadsData {T = Unit {0}} (Err fault)
-keys_own table page row fault (inr memory) = subst (λ (f : SpaceFault). ReadsData {T = Unit {0}} (Err f))
+keys_own table page row fault (inr (inr memory)) = subst (λ (f : SpaceFault). ReadsData {T = Unit {0}} (Err f))
     (sym memory) tt
 keys_own table page None fault (inl lacks) = absurd lacks
 keys_own table page (Some row) fault (inl lacks) = subst (λ (f : SpaceFault). ReadsData {T = Unit {0}} (Err f))
     (sym lacks.1) tt
+keys_own table page None fault (inr (inl is)) = absurd is
+keys_own table page (Some row) fault (inr (inl is)) = subst (λ (f : SpaceFault). ReadsData {T = Unit {0}} (Err f))
+    (sym is.1) tt
 
--- a row without a key, or want of memory, is no fault of the cache that is told of its disk
+-- a row without a key or that does not fit, or want of memory, is no fault of the cache that is told of its disk
 pub keys_told : {D : Type 0} (m : Meaning D) (old new : Pool D FireLinks) (table : Table) (page : ℕ)
     (row : Option Row) (fault : SpaceFault) → StaysOnline m old new → KeysRow table page row (Err fault)
     → TellsFault m old new (pool_answer {T = Unit {0}} (Err fault))
-keys_told m old new table page row fault online (inr memory) = subst (λ (f : SpaceFault).
+keys_told m old new table page row fault online (inr (inr memory)) = subst (λ (f : SpaceFault).
     TellsFault m old new (pool_answer {T = Unit {0}} (Err f))) (sym memory) online
 keys_told m old new table page None fault online (inl lacks) = absurd lacks
 keys_told m old new table page (Some row) fault online (inl lacks) = subst (λ (f : SpaceFault).
     TellsFault m old new (pool_answer {T = Unit {0}} (Err f))) (sym lacks.1) online
+keys_told m old new table page None fault online (inr (inl is)) = absurd is
+keys_told m old new table page (Some row) fault online (inr (inl is)) = subst (λ (f : SpaceFault).
+    TellsFault m old new (pool_answer {T = Unit {0}} (Err f))) (sym is.1) online

@@ -20,6 +20,7 @@ use Rattle.mg_pool.specs.Pool.{shown}
 use Rattle.mg_pool.specs.declared.fault.PoolFault.TheVariants.{Memory}
 use Rattle.mg_pool.specs.declared.pool.Pool.{Pool}
 use Rattle.mg_records.specs.declared.found.Found.{Found}
+use Rattle.mg_records.specs.Reading.{FindsFitting, StandsUnderKey}
 use Rattle.mg_seek.specs.Refusals.{RefusesVisit}
 use Rattle.mg_seek.specs.Versions.{wants}
 use Rattle.mg_seek.specs.Views.{IsVisit}
@@ -31,6 +32,7 @@ use Rattle.mg_space.specs.declared.fault.SpaceFault.{SpaceFault}
 use Rattle.mg_space.specs.declared.fault.SpaceFault.TheVariants as space
 use Rattle.mg_space.specs.declared.links.FireLinks.{FireLinks}
 use Rattle.mg_txlist.specs.TxList.{said}
+use Rattle.mg_value.specs.Rows.{RowFits}
 use Rattle.mg_value.specs.declared.value.Value.{Value}
 use Rattle.mg_value.specs.declared.value.Value.TheVariants.{Null}
 use Rattle.mg_core.specs.declared.parts.Core.{Core}
@@ -87,6 +89,16 @@ LacksKey table page None fault = ⊥
 LacksKey table page (Some row) fault = (key_of table row ≡ Null)
     × (fault ≡ space.Damaged (keyless_damage page))
 
+-- the damage of a record whose row does not fit its table
+abbrev pub unfit_damage : ℕ → Damaged
+unfit_damage page = damage page fields.Row 0 1
+
+-- a row does not fit the columns of its table
+abbrev pub IsUnfit : Table → ℕ → Option Row → SpaceFault → Type 0
+IsUnfit table page None fault = ⊥
+IsUnfit table page (Some row) fault = (RowFits table.shape.columns row → ⊥)
+    × (fault ≡ space.Damaged (unfit_damage page))
+
 -- the record behind a place was found, with its row and that one's key and with the sequence of its page;
 -- or there is none
 abbrev pub IsFound : (ℕ → TxState) → Bases → TxNo → Pages → Table → Option Place
@@ -103,7 +115,8 @@ GoesOn after None = Unit {0}
 GoesOn after (Some found) = IsBehind after found.place
 
 -- Why a walk goes no further, but for faults of the cache: the next record is not found, or its row is not
--- read; its page is missing; it does not come behind the former place; or its row has no key.
+-- read; its page is missing; it does not come behind the former place; its row has no key; or it does not fit the
+-- table.
 pub data IsStepDamage {D : Type 0} (m : Meaning D) (store : Pool D FireLinks)
     (state : ℕ → TxState) (live : Bases) (t : TxNo) (view : Pages) (table : Table)
     (after : Option Place) : SpaceFault → Type 0 where
@@ -122,6 +135,10 @@ pub data IsStepDamage {D : Type 0} (m : Meaning D) (store : Pool D FireLinks)
       → IsVisit state live t view table (record_of after) (Some visit)
       → LacksKey table visit.rec.page.0 visit.row fault
       → IsStepDamage m store state live t view table after fault
+  unfit : (visit : Visit) (fault : SpaceFault)
+      → IsVisit state live t view table (record_of after) (Some visit)
+      → IsUnfit table visit.rec.page.0 visit.row fault
+      → IsStepDamage m store state live t view table after fault
 
 -- ---- the call
 
@@ -138,12 +155,14 @@ WhyNoStep m core store t table after fault = (image : Image) → Tells m core.st
     → IsStepDamage m store (said core.list) core.live t
     (shown core.store.dirty image) table after fault
 
--- Pages were read: the next record was found, which comes behind the former place, or there is none.
+-- Pages were read: the next record was found, which comes behind the former place, or there is none. Its row may stand
+-- in the table, whatever the pages tell.
 pub record ScansOn {D : Type 0} (m : Meaning D) (old new : Core D) (t : TxNo) (table : Table)
     (after : Option Place) (found : Option (Found Place)) : Type 0 where
   pub continues : Continues old t.0
   pub gives : GivesFound m old t table after found
   pub behind : GoesOn after found
+  pub fits : FindsFitting table.shape (Ok found)
   pub reads : ReadsPages m old new
   pub same : new ≡ record old { store = new.store }
 
@@ -178,6 +197,7 @@ abbrev pub VisitsNext : {D : Type 0} → Meaning D → Core D → Core D → TxN
     → Result (Option (Found Place)) SpaceFault → Type 0
 VisitsNext m old new t table after (Ok found) = GivesFound m old t table after found
     × GoesOn after found × ReadsPages m old new × (new ≡ record old { store = new.store })
+    × FindsFitting table.shape (Ok found)
 VisitsNext m old new t table after (Err fault) = KeepsStore m old.store new.store
     × TellsFault m old.store new.store (pool_answer {T = Unit {0}} (Err fault))
     × WhyNoStep m old new.store t table after fault × (new ≡ record old { store = new.store })
@@ -191,10 +211,16 @@ PlacesBehind m store view rec after (Err fault) =
     RefusesRead {T = Unit {0}} m store [] rec.page (Err fault)
     ⊎ IsEarly after (record { rec = rec; sequence = sequence_in view rec }) fault
 
--- a row with its key, or that it has none, or that there was no memory
+-- a row with its key, which may stand in the table; or that it has none, or does not fit, or that there was no memory
 abbrev pub KeysRow : Table → ℕ → Option Row → Result (Option (Value × Row)) SpaceFault → Type 0
-KeysRow table page row (Ok keyed) = HasKey table row keyed
-KeysRow table page row (Err fault) = LacksKey table page row fault ⊎ (fault ≡ space.Pool Memory)
+KeysRow table page row (Ok keyed) = HasKey table row keyed × StandsUnderKey table.shape keyed
+KeysRow table page row (Err fault) =
+    LacksKey table page row fault ⊎ IsUnfit table page row fault ⊎ (fault ≡ space.Pool Memory)
+
+-- a row fits the columns of its table, or it is damaged
+abbrev pub ChecksFit : Table → ℕ → Row → Result (Unit {0}) Damaged → Type 0
+ChecksFit table page row (Ok x) = RowFits table.shape.columns row
+ChecksFit table page row (Err it) = (RowFits table.shape.columns row → ⊥) × (it ≡ unfit_damage page)
 
 -- a place comes behind another one, or the damage that it does not
 abbrev pub ChecksBehind : Option Place → Place → Result (Unit {0}) Damaged → Type 0

@@ -10,7 +10,7 @@ ghost use Rattle.mg_space.specs.View.{KeepsStore, Tells, pool_answer};
 ghost use Rattle.mg_works.specs.Works.{MayBeGiven};
 ghost use Rattle.mg_core.specs.Cores.{IsCore};
 ghost use Rattle.mg_image.specs.Records.{key_of};
-ghost use Rattle.mg_core.specs.Scanning.{ChecksBehind, IsBehind, KeysRow, PlacesBehind, Scans, VisitsNext, rank as rank_of, record_of as record_in};
+ghost use Rattle.mg_core.specs.Scanning.{ChecksBehind, ChecksFit, IsBehind, KeysRow, PlacesBehind, Scans, VisitsNext, rank as rank_of, record_of as record_in};
 
 use crate::parts::Core;
 use crate::states::StatesOf;
@@ -20,7 +20,7 @@ use mg_pool::{Batch, PoolFault};
 use mg_records::Found;
 use mg_seek::view_step;
 use mg_space::{SpaceFault, Store, hold, lent};
-use mg_value::{Key, Row, Value};
+use mg_value::{Key, Row, Value, row_fits};
 use std::alloc::Global;
 
 /// Where a walk over the records of a table has come to.
@@ -51,7 +51,8 @@ impl<D: Disk> Core<D> {
     ///
     /// `Offline` exactly where a page write has failed; else `NotActive` exactly where the transaction isn't
     /// active; `DiskRead`; `Damaged` as `view_step`; `Damaged` at `Sequence` where the next record's page
-    /// comes again or too early; `Damaged` at `Key` where the row has none; `Memory`.
+    /// comes again or too early; `Damaged` at `Key` where the row has none, at `Row` where it does not fit the table;
+    /// `Memory`.
     pub fn scan_step(
         &mut self,
         t: TxNo,
@@ -181,7 +182,9 @@ fn check_behind(after: Option<Place>, place: Place) -> Result<(), Damaged>
 ///
 /// # Errors
 ///
-/// `Damaged` at `Key` where it has none, under the number of its page; `Pool` with `Memory`.
+/// `Damaged` at `Key` where it has none, and at `Row` where it does not fit the table, under the number of its page;
+/// `Pool` with `Memory`.
+#[tactic(auto, using(crate::proofs::ScanLemmas::keyed_so))]
 fn keyed(
     alloc: Global,
     table: &Table,
@@ -193,6 +196,10 @@ fn keyed(
     let Some(row) = row else {
         return Ok(None);
     };
+    match check_fit(table, page, &row) {
+        Ok(()) => {}
+        Err(damage) => return Err(SpaceFault::Damaged(damage)),
+    }
     let value = match key_copy(alloc, table, &row) {
         Ok(value) => value,
         Err(_) => return Err(SpaceFault::Pool(PoolFault::Memory)),
@@ -206,6 +213,26 @@ fn keyed(
             wanted: 1,
         })),
     }
+}
+
+/// Tests that a row fits the columns of its table: one that lacks a later column may have to be NULL there, where the
+/// column allows none.
+///
+/// # Errors
+///
+/// `Damaged` at `Row`, under the number of its page, exactly where it does not.
+fn check_fit(table: &Table, page: PageNo, row: &Row) -> Result<(), Damaged>
+    ensures { ChecksFit table.now page.0 row.now result }
+{
+    if row_fits(&table.shape, row) {
+        return Ok(());
+    }
+    Err(Damaged {
+        page,
+        field: Field::Row,
+        found: 0,
+        wanted: 1,
+    })
 }
 
 /// A copy of the value of a row that is its key in a table.

@@ -47,7 +47,7 @@ module _ {R P : Type 0} (m : Means R P) (old new : R) (t : ℕ) (spares : Spares
   ready_beside (phases.Inserting i) ready = record {
     table = spares.tables i.table.name i.table ready.table;
     inserts = ready.inserts;
-    typed = ready.typed;
+    binds = ready.binds;
   }
   ready_beside (phases.Reading reading) ready = record {
     way = record {
@@ -55,7 +55,8 @@ module _ {R P : Type 0} (m : Means R P) (old new : R) (t : ℕ) (spares : Spares
       place = place_beside reading.walk.table reading.walk.place ready.way.place;
     };
     finds = ready.finds;
-    typed = ready.typed;
+    binds = ready.binds;
+    fit = ready.fit;
   }
   ready_beside (phases.Changing c) ready = record {
     table = spares.tables c.writes.table.name c.writes.table ready.table;

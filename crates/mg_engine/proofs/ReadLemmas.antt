@@ -7,6 +7,7 @@ use Rattle.mg_model.specs.declared.table.Table.{Table}
 use Rattle.mg_model.specs.Changes.{KeyedRows, same_name}
 use Rattle.mg_records.specs.Keeping.{MeetsNoDamage}
 use Rattle.mg_records.specs.declared.found.Found.{Found}
+use Rattle.mg_records.specs.Reading.{FindsFitting}
 use Rattle.mg_works.specs.Works.{AllMayBeGiven, AreApart, MayBeGiven, Working, given_by, given_in, given_to, with_table, work_of}
 use Rattle.mg_works.specs.WorksLaws.{with_apart}
 use Rattle.mg_core.specs.declared.parts.Core.{Core}
@@ -51,6 +52,14 @@ scans_apart {D} m old new t table after (Err refusal) (inl (refuses, same)) apar
     subst AreApart (sym (ap (λ (c : Core D). c.works) same)) apart
 scans_apart {D} m old new t table after (Err refusal) (inr is) apart =
     subst AreApart (sym (ap (λ (c : Core D). c.works) is.same)) apart
+
+-- ---- the row that a visit gives may stand in the table
+
+pub scans_fit : {D : Type 0} (m : Meaning D) (old new : Core D) (t : TxNo) (table : Table)
+    (after : Option Place) (result : Result (Option (Found Place)) Refusal)
+    → Scans m old new t table after result → FindsFitting table.shape result
+scans_fit m old new t table after (Ok found) is = is.fits
+scans_fit m old new t table after (Err refusal) is = tt
 
 -- ---- a table that was given may be given
 

@@ -500,12 +500,13 @@ statements_stay_ready m old new t u refusal (phases.Returning name) frames apart
 statements_stay_ready m old new t u refusal (phases.Inserting i) frames apart ready = record {
   table = seen_again m old new t u refusal i.table frames apart ready.table;
   inserts = ready.inserts;
-  typed = ready.typed;
+  binds = ready.binds;
 }
 statements_stay_ready m old new t u refusal (phases.Reading reading) frames apart ready = record {
   way = walks_stay_ready m old new t u refusal reading.walk frames apart ready.way;
   finds = ready.finds;
-  typed = ready.typed;
+  binds = ready.binds;
+  fit = ready.fit;
 }
 statements_stay_ready m old new t u refusal (phases.Changing c) frames apart ready = record {
   table = seen_again m old new t u refusal c.writes.table frames apart ready.table;

@@ -1,10 +1,12 @@
 -- The steps of a reading.
-use Rattle.std.proofs.Common.{◌≡◌, ◌≤◌, ℕ, Bool, true, false, List, [], ◌∷◌, ◌++◌, ◌+◌, length, map, Option, Some, None, Result, Ok, Err, inl, inr, refl, sym, ap, subst, ◌∙◌, arith}
-use Rattle.std.specs.Prelude.{IsPermutation}
+use Rattle.std.proofs.Common.{◌≡◌, ◌≤◌, ℕ, zero, suc, Bool, true, false, List, [], ◌∷◌, ◌++◌, ◌+◌, length, map, Option, Some, None, Result, Ok, Err, inl, inr, refl, sym, ap, subst, ◌∙◌, arith}
+use Rattle.std.specs.Prelude.{All, IsPermutation}
+use Rattle.std.proofs.lemmas.List.Elements.{All-append, All-map}
 use Rattle.std.proofs.lemmas.List.{append-nil, append_assoc, length-append, length-map}
-use Rattle.std.proofs.lemmas.List.Sorted.{length_permutation}
+use Rattle.std.proofs.lemmas.List.Sorted.{All-permutation, length_permutation}
 use Rattle.mg_base.specs.declared.numbers.TxNo.{TxNo}
 use Rattle.mg_base.specs.declared.transaction.TxState.TheVariants.{Active}
+use Rattle.mg_value.specs.declared.shape.Shape.{Shape}
 use Rattle.mg_value.specs.declared.value.Value.{Value}
 use Rattle.mg_expr.specs.declared.expr.Expr.{Expr}
 use Rattle.mg_expr.specs.declared.fault.EvalFault.{EvalFault}
@@ -27,7 +29,7 @@ use Rattle.mg_records.specs.Adding.{IsRefused}
 use Rattle.mg_records.specs.Crashing.{LeavesQuietly}
 use Rattle.mg_records.specs.Keeping.{MeetsNoDamage}
 use Rattle.mg_records.specs.Meaning.{Means}
-use Rattle.mg_records.specs.Reading.{FindAdds, shape_seen}
+use Rattle.mg_records.specs.Reading.{FindAdds, MayStand, shape_seen}
 use Rattle.mg_rows.specs.declared.statement_fault.StatementFault.{StatementFault}
 use Rattle.mg_rows.specs.declared.statement_fault.StatementFault.TheVariants.{Engine, Arithmetic}
 use Rattle.mg_rows.specs.Faults.{of_eval}
@@ -47,7 +49,7 @@ use Rattle.mg_exec.specs.declared.phase.Phase.TheVariants as phases
 use Rattle.mg_exec.specs.declared.phase.Step.{Step}
 use Rattle.mg_exec.specs.declared.phase.Step.TheVariants.{More}
 use Rattle.mg_exec.specs.declared.phase.Turn.{Turn}
-use Rattle.mg_exec.specs.Phases.{HasRead, IsReadyToRead, IsTypedFor, Leaves, ended, filter_in, refusal_of, rolled_back_at}
+use Rattle.mg_exec.specs.Phases.{AllKeptMayStand, AllMayStand, HasRead, IsBoundTo, IsReadyToRead, Leaves, ended, filter_in, refusal_of, rolled_back_at}
 use Rattle.mg_exec.specs.Progress.{IsBehind}
 use Rattle.mg_exec.specs.Reading.{AreInOrder, Ends, IsWhatIsFound, in_order, no_memory, Finds, GoesOnWith, KeepsRow, Reads, comes_on, finds, faults, stops, find_of, rows_found, passes_of}
 use Rattle.mg_exec.specs.Selecting.{answer_told}
@@ -306,30 +308,58 @@ pub reads_on : {R P : Type 0} (m : Means R P) (old new : R) (t : ℕ) (before : 
 reads_on m old new t before walk ready same way = record {
   way = way;
   finds = ready.finds;
-  typed = subst (λ (table : Table). IsTypedFor table before.bound) (sym same) ready.typed;
+  binds = subst (λ (table : Table). IsBoundTo table before.bound) (sym same) ready.binds;
+  fit = subst (λ (table : Table). AllKeptMayStand table.shape before.kept.items) (sym same) ready.fit;
 }
+
+-- a row more that may stand in the table is kept, or none is
+kept_fit : (shape : Shape) (passed : Option Bool) (row : Value × Cells) (old new : KeyedRows)
+    → MayStand shape row.1 → AllKeptMayStand shape old → Keeps passed row old new (Ok tt)
+    → AllKeptMayStand shape new
+kept_fit shape None row old new may fit keeps = absurd keeps
+kept_fit shape (Some false) row old new may fit keeps = subst (AllKeptMayStand shape) (sym keeps) fit
+kept_fit shape (Some true) row old new may fit keeps = subst (AllKeptMayStand shape) (sym keeps)
+    (All-append (λ (keyed : Value × Cells). MayStand shape keyed.1) old (row ∷ []) fit one)
+  where
+    one : All (λ (keyed : Value × Cells). MayStand shape keyed.1) (row ∷ [])
+    one zero d below = may
+    one (suc k) d below = absurd (omega (arith, below))
+
+-- rows in the order of their keys are those that were kept
+pub told_fit : (shape : Shape) (kept : KeyedRows) (rows : List Cells) → AreInOrder kept rows
+    → AllKeptMayStand shape kept → AllMayStand shape rows
+told_fit shape kept rows order fit = subst (AllMayStand shape) (sym order.bare)
+    (All-map (MayStand shape) (λ (r : Value × Cells). r.1) order.sorted
+    (All-permutation (λ (keyed : Value × Cells). MayStand shape keyed.1) kept order.sorted order.order.same fit))
 
 pub keeps_leaves : {R P : Type 0} (m : Means R P) (old new : R) (t : ℕ) (before : Reading P)
     (row : Value × Cells) (phase : Phase P) (answer : Result Step StatementFault)
     → Frames m old new t None → AreCalm m old new None → IsReadyToRead m new t before
+    → MayStand before.walk.table.shape row.1
     → KeepsRow before row phase answer → Leaves m old new t (record { phase = phase; answer = answer })
-keeps_leaves {P = P} m old new t before row (phases.Reading after) (Ok More) frames calm ready keeps = record {
+keeps_leaves {P = P} m old new t before row (phases.Reading after) (Ok More) frames calm ready may keeps = record {
   frames = frames;
   ready = subst (λ (x : Walk P × Bound). IsReadyToRead m new t
       (record { walk = x.0; bound = x.1; kept = after.kept }))
       (sym (λ k. (keeps.0 k, keeps.1 k)))
-      (record { way = ready.way; finds = ready.finds; typed = ready.typed });
+      (record {
+        way = ready.way;
+        finds = ready.finds;
+        binds = ready.binds;
+        fit = kept_fit before.walk.table.shape (passes_of before row.1) row before.kept.items after.kept.items
+            may ready.fit keeps.2;
+      });
   calm = calm;
 }
-keeps_leaves m old new t before row phases.Ended (Err Arithmetic) frames calm ready keeps =
+keeps_leaves m old new t before row phases.Ended (Err Arithmetic) frames calm ready may keeps =
     record { frames = frames; ready = tt; calm = calm }
-keeps_leaves m old new t before row phases.Ended (Err (Engine refusals.Memory)) frames calm ready keeps =
+keeps_leaves m old new t before row phases.Ended (Err (Engine refusals.Memory)) frames calm ready may keeps =
     record {
       frames = frames_quiet m old new t (Some refusals.Memory) tt frames (λ quiet. refl);
       ready = tt;
       calm = calm;
     }
-keeps_leaves m old new t before row phase answer frames calm ready keeps = absurd keeps
+keeps_leaves m old new t before row phase answer frames calm ready may keeps = absurd keeps
 
 -- ---- the rows that are told
 

@@ -28,9 +28,11 @@ use Rattle.mg_rows.specs.Faults.{of_plan}
 use Rattle.mg_calls.specs.Frames.{Frames}
 use Rattle.mg_calls.specs.FrameLaws.{frames_reads_nothing}
 use Rattle.mg_exec.proofs.FrameLemmas.{frames_quiet}
+use Rattle.mg_rows.specs.BoundLaws.{bound_update}
+use Rattle.std.proofs.lemmas.List.Elements.{All-nil}
 use Rattle.mg_exec.specs.declared.phase.Phase.{Phase}
 use Rattle.mg_exec.specs.declared.phase.Phase.TheVariants as phases
-use Rattle.mg_exec.specs.Phases.{IsReady, StandsAt, is_finding, is_insert, may_not_write}
+use Rattle.mg_exec.specs.Phases.{AllKeptMayStand, IsBoundTo, IsReady, LeavesKeys, StandsAt, is_finding, is_insert, may_not_write}
 use Rattle.mg_exec.specs.Starting.{refusal_at, HasRows, IsBegun, IsStarted, IsWhyNot, it_writes, no_table, not_told, not_bound, no_memory}
 
 -- the keeper tells no table
@@ -159,6 +161,19 @@ started m old new o h t read_only s name size test table bound phase is not_ tel
       },
     )
 
+-- what the binding gives is bound to the table
+pub bound_to : (table : AnyTable) (size : ℕ) (s : Plain) (b : Bound)
+    → Binds table.shape.columns table.shape.key size s (Ok b) → IsBoundTo table b
+bound_to table size s b binds = record {
+  typed = bound_typed table.shape.columns table.shape.key size s b binds.0 binds.1;
+  keys = at (plain_of b.statement) refl;
+}
+  where
+    at : (p : Plain) → plain_of b.statement ≡ p → LeavesKeys table.shape b.places.items p
+    at (Update name sets filter) is =
+        (bound_update table.shape.columns table.shape.key size s b name sets filter binds is).2
+    at p is = tt
+
 -- a statement that begins is ready for its first step
 pub ready_at_start : {R P : Type 0} (m : Means R P) (new : R) (t : ℕ) (s : Plain) (name : List ℕ)
     (size : ℕ) (table : AnyTable) (bound : Bound) (phase : Phase P) → HasRows s
@@ -169,8 +184,8 @@ ready_at_start m new t s name size table bound (phases.Inserting i) rows given b
     record {
       table = subst (λ (table : AnyTable). m.table new t table.name ≡ Some table) (sym begun.1) again;
       inserts = subst (λ (b : Bound). is_insert (plain_of b.statement) ≡ true) (sym begun.2) begun.0;
-      typed = subst (λ (x : AnyTable × Bound). is_typed x.0.shape.columns x.1.places.items (plain_of x.1.statement) ≡ true)
-          (sym (λ k. (begun.1 k, begun.2 k))) (bound_typed table.shape.columns table.shape.key size s bound binds.0 binds.1);
+      binds = subst (λ (x : AnyTable × Bound). IsBoundTo x.0 x.1)
+          (sym (λ k. (begun.1 k, begun.2 k))) (bound_to table size s bound binds);
     }
 ready_at_start {P = P} m new t s name size table bound (phases.Reading reading) rows given binds begun =
     let again = subst (λ (n : List ℕ). m.table new t n ≡ Some table) (sym given.named) given.again in
@@ -181,8 +196,9 @@ ready_at_start {P = P} m new t s name size table bound (phases.Reading reading) 
       };
       finds = subst (λ (b : Bound). is_finding (plain_of b.statement) ≡ true) (sym begun.3)
           (bound_finds table.shape.columns s bound rows binds.1 begun.0);
-      typed = subst (λ (x : AnyTable × Bound). is_typed x.0.shape.columns x.1.places.items (plain_of x.1.statement) ≡ true)
-          (sym (λ k. (begun.1 k, begun.3 k))) (bound_typed table.shape.columns table.shape.key size s bound binds.0 binds.1);
+      binds = subst (λ (x : AnyTable × Bound). IsBoundTo x.0 x.1)
+          (sym (λ k. (begun.1 k, begun.3 k))) (bound_to table size s bound binds);
+      fit = subst (AllKeptMayStand reading.walk.table.shape) (sym begun.4) (All-nil _);
     }
 ready_at_start m new t s name size table bound phase rows given binds begun = absurd begun
 

@@ -1,5 +1,7 @@
 -- Where a statement stands, and what the next call of it asks.
-use Rattle.std.specs.Prelude.{◌≡◌, ◌≢◌, ℕ, ◌&&◌, Bool, true, false, Option, Some, None, Result, Err}
+use Rattle.std.specs.Prelude.{◌≡◌, ◌≢◌, ◌==◌, ℕ, ◌&&◌, Bool, true, false, List, All, Option, Some, None, Result, Err}
+use Rattle.std.specs.List.{list_any}
+use Rattle.mg_value.specs.declared.shape.Shape.{Shape}
 use Rattle.mg_expr.specs.declared.expr.Expr.{Expr}
 use Rattle.mg_statements.specs.declared.statement.Statement.{Statement}
 use Rattle.mg_statements.specs.declared.statement.Statement.TheVariants as statements
@@ -10,9 +12,10 @@ use Rattle.mg_model.specs.declared.opening.Opening.{Opening}
 use Rattle.mg_model.specs.declared.refusal.Refusal.{Refusal}
 use Rattle.mg_model.specs.declared.table.Table.{Table}
 use Rattle.mg_model.specs.Catalog.{catalog_name}
-use Rattle.mg_model.specs.Changes.{KeyedRows}
+use Rattle.mg_model.specs.Changes.{Cells, KeyedRows}
 use Rattle.mg_model.specs.History.{Entries}
 use Rattle.mg_records.specs.Meaning.{Means}
+use Rattle.mg_records.specs.Reading.{MayStand}
 use Rattle.mg_records.specs.Writing.{FitsPages, IsNewShape}
 use Rattle.mg_rows.specs.declared.statement_fault.StatementFault.{StatementFault}
 use Rattle.mg_rows.specs.declared.statement_fault.StatementFault.TheVariants.{Engine}
@@ -68,22 +71,36 @@ may_not_write read_only s = read_only && is_writing s
 
 -- ---- what the next call asks
 
--- the expressions of a statement have the types that the table's columns want
-abbrev pub IsTypedFor : Table → Bound → Type 0
-IsTypedFor table bound =
-    is_typed table.shape.columns bound.places.items (plain_of bound.statement) ≡ true
+-- an UPDATE sets no column of the key; its columns stand at these places
+abbrev pub LeavesKeys : Shape → List ℕ → Plain → Type 0
+LeavesKeys shape places (Update table sets filter) = list_any (λ place. place == shape.key) places ≡ false
+LeavesKeys shape places s = Unit {0}
+
+-- A statement is bound to its table: its expressions have the types that the table's columns want, and it leaves the
+-- keys of rows.
+pub record IsBoundTo (table : Table) (bound : Bound) : Type 0 where
+  pub typed : is_typed table.shape.columns bound.places.items (plain_of bound.statement) ≡ true
+  pub keys : LeavesKeys table.shape bound.places.items (plain_of bound.statement)
+
+-- each of these rows may stand in a table of the shape; those with their keys
+abbrev pub AllMayStand : Shape → List Cells → Type 0
+AllMayStand shape rows = All (MayStand shape) rows
+
+abbrev pub AllKeptMayStand : Shape → KeyedRows → Type 0
+AllKeptMayStand shape kept = All (λ keyed. MayStand shape keyed.1) kept
 
 -- the transaction sees the table
 pub record IsReadyToInsert {R P : Type 0} (m : Means R P) (r : R) (t : ℕ) (i : Inserting) : Type 0 where
   pub table : m.table r t i.table.name ≡ Some i.table
   pub inserts : is_insert (plain_of i.bound.statement) ≡ true
-  pub typed : IsTypedFor i.table i.bound
+  pub binds : IsBoundTo i.table i.bound
 
--- the transaction sees the table, and the walk's place was given
+-- the transaction sees the table, the walk's place was given, and the rows that were kept may stand in the table
 pub record IsReadyToRead {R P : Type 0} (m : Means R P) (r : R) (t : ℕ) (reading : Reading P) : Type 0 where
   pub way : IsOnItsWay m r t reading.walk
   pub finds : is_finding (plain_of reading.bound.statement) ≡ true
-  pub typed : IsTypedFor reading.walk.table reading.bound
+  pub binds : IsBoundTo reading.walk.table reading.bound
+  pub fit : AllKeptMayStand reading.walk.table.shape reading.kept.items
 
 -- the table has a name and a shape that a new one may have, and fits the keeper's pages
 pub record IsReadyToCreate {R P : Type 0} (m : Means R P) (r : R) (table : NewTable) : Type 0 where

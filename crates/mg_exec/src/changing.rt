@@ -6,7 +6,7 @@ ghost use Rattle.mg_model.specs.History.{Entries};
 ghost use Rattle.mg_records.specs.Writing.{FitsShape};
 ghost use Rattle.mg_calls.specs.Steps.{AreReady};
 ghost use Rattle.mg_calls.specs.Quiet.{AreQuiet};
-ghost use Rattle.mg_exec.specs.Phases.{IsTypedFor, Leaves, rolled_back_at};
+ghost use Rattle.mg_exec.specs.Phases.{AllMayStand, IsBoundTo, Leaves, rolled_back_at};
 ghost use Rattle.mg_exec.specs.Progress.{IsBehind, MakesOneWrite};
 ghost use Rattle.mg_exec.specs.Changing.{turned as turned_by, BeginsToWrite, Changes, StartsToWrite};
 
@@ -96,7 +96,8 @@ pub fn start_to_write<R: Records>(
 where
     R::Place: Drop,
     requires table { R.meaning.table r.old t.0 table.name ≡ Some table }
-    requires typed { IsTypedFor table bound.now }
+    requires binds { IsBoundTo table bound.now }
+    requires rows { AllMayStand table.shape found.now }
     ensures starts { (o : Opening) (h : Entries) → R.meaning.stands r.old o h
         → StartsToWrite R.meaning r.new o h t table bound.now found.now result }
     ensures behind { IsBehind (length found.now + 1) result }

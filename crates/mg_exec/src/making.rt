@@ -1,13 +1,16 @@
 //! The writes that a statement makes of the rows that it found.
 
-ghost use Rattle.std.specs.Prelude.{◌≡◌, ◌<◌, ◌++◌, ◌∷◌, [], All, IfOk, MatchResult, OnOk, length, map, Ok, true};
+ghost use Rattle.std.specs.Prelude.{◌≡◌, ◌≢◌, ◌==◌, ◌++◌, ◌∷◌, [], All, IfOk, MatchResult, OnOk, map, Ok, false, true};
+ghost use Rattle.std.specs.List.{list_any};
 ghost use Rattle.mg_expr.specs.Trees.{tree_of};
 ghost use Rattle.mg_expr.specs.Typing.{sort_of};
 ghost use Rattle.mg_plan.specs.Types.{fit_places};
 ghost use Rattle.mg_model.specs.Catalog.{key_of as key_of_row};
 ghost use Rattle.mg_records.specs.declared.write.Write.TheVariants as writes;
+ghost use Rattle.mg_records.specs.Reading.{MayStand};
 ghost use Rattle.mg_records.specs.Writing.{FitsShape};
-ghost use Rattle.mg_exec.specs.Phases.{IsTypedFor};
+ghost use Rattle.mg_value.specs.declared.value.Value.TheVariants.{Null};
+ghost use Rattle.mg_exec.specs.Phases.{AllMayStand, IsBoundTo};
 ghost use Rattle.mg_exec.specs.Making.{AreMade, MakesNone, insertion_of, changes_of, erasures_of, writes_made};
 ghost use Rattle.mg_rows.specs.NewRows.{inserted, updated};
 
@@ -18,7 +21,7 @@ use mg_plan::Bound;
 use mg_records::Write;
 use mg_rows::{NewRowFault, insert_row, new_rows_fit, update_rows};
 use mg_statements::{Assign, Statement};
-use mg_value::{Key, Row, Shape, row_fits};
+use mg_value::{Key, Row, Shape};
 use std::alloc::Global;
 use std::collections::VecDeque;
 
@@ -26,41 +29,45 @@ use std::collections::VecDeque;
 ///
 /// # Errors
 ///
-/// `Memory`; also where the row has none.
+/// `Memory` only.
 fn key_of(alloc: Global, shape: &Shape, row: &Row) -> Result<Key, Memory>
-    ensures key { IfOk result (λ key. key ≡ key_of_row shape.now row.now) }
-    ensures there { OnOk result (shape.now.key < length row.now) }
+    requires { key_of_row shape.now row.now ≢ Null }
+    ensures { IfOk result (λ key. key ≡ key_of_row shape.now row.now) }
 {
     let Some(value) = row.as_slice().get(shape.key as usize) else {
-        return Err(Memory);
+        unreachable!();
     };
     match Key::new(value.copy(alloc)?) {
         Some(key) => Ok(key),
-        None => Err(Memory),
+        None => unreachable!(),
     }
 }
 
 /// The write by which the row with this row's key becomes this one.
+///
+/// # Errors
+///
+/// `Memory` only.
 fn change(alloc: Global, shape: &Shape, row: Row) -> Result<Write, Memory>
+    requires { MayStand shape.now row }
     ensures is { IfOk result (λ write. write ≡ writes.Change (key_of_row shape.now row) row) }
     ensures fits { IfOk result (FitsShape shape.now) }
 {
-    if !row_fits(shape, &row) {
-        return Err(Memory);
-    }
     let key = key_of(alloc, shape, &row)?;
     Ok(Write::Change(key, row))
 }
 
 /// The write that deletes a row.
-#[tactic(auto, using(crate::proofs::MakingLemmas::fits_at))]
+///
+/// # Errors
+///
+/// `Memory` only.
+#[tactic(auto, using(crate::proofs::MakingLemmas::key_fits))]
 fn erasure(alloc: Global, shape: &Shape, row: &Row) -> Result<Write, Memory>
+    requires { MayStand shape.now row.now }
     ensures is { IfOk result (λ write. write ≡ writes.Erase (key_of_row shape.now row.now)) }
     ensures fits { IfOk result (FitsShape shape.now) }
 {
-    if !row_fits(shape, row) {
-        return Err(Memory);
-    }
     Ok(Write::Erase(key_of(alloc, shape, row)?))
 }
 
@@ -85,6 +92,7 @@ fn insertions(alloc: Global, row: Row) -> Result<VecDeque<Write>, Memory>
 
 /// The writes of an UPDATE: each of these rows stands in place of the one with its key.
 fn changes(alloc: Global, shape: &Shape, rows: Vec<Row>) -> Result<VecDeque<Write>, Memory>
+    requires { AllMayStand shape.now rows.items }
     ensures is { IfOk result (λ made. Ok made.items ≡ changes_of shape.now (Ok rows.items)) }
     ensures fits { IfOk result (λ made. All (FitsShape shape.now) made.items) }
 {
@@ -97,6 +105,7 @@ fn changes(alloc: Global, shape: &Shape, rows: Vec<Row>) -> Result<VecDeque<Writ
 
 /// The writes of a DELETE: each of these rows goes.
 fn erasures(alloc: Global, shape: &Shape, rows: &[Row]) -> Result<VecDeque<Write>, Memory>
+    requires { AllMayStand shape.now rows.now }
     ensures is { IfOk result (λ made. made.items ≡ erasures_of shape.now rows.now) }
     ensures fits { IfOk result (λ made. All (FitsShape shape.now) made.items) }
 {
@@ -136,7 +145,10 @@ fn update_found(
     sets: &[Assign],
     found: &[Row],
 ) -> Result<VecDeque<Write>, NewRowFault>
-    requires { length places.now ≡ length sets.now }
+    requires typed { fit_places shape.now.columns places.now
+        (map (λ t. sort_of t shape.now.columns) (map (λ set. tree_of set.value) sets.now)) ≡ true }
+    requires keys { list_any (λ place. place == shape.now.key) places.now ≡ false }
+    requires rows { AllMayStand shape.now found.now }
     ensures { MatchResult result
         (λ made. AreMade (changes_of shape.now
         (updated shape.now.columns places.now (map (λ set. tree_of set.value) sets.now) found.now))
@@ -159,7 +171,8 @@ pub fn make_writes(
     bound: &Bound,
     found: &[Row],
 ) -> Result<VecDeque<Write>, NewRowFault>
-    requires { IsTypedFor table.now bound.now }
+    requires binds { IsBoundTo table.now bound.now }
+    requires rows { AllMayStand table.now.shape found.now }
     ensures { MatchResult result
         (λ made. AreMade (writes_made table.now bound.now found.now) (FitsShape table.now.shape) made.items)
         (MakesNone (writes_made table.now bound.now found.now)) }

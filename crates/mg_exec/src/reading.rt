@@ -12,7 +12,7 @@ ghost use Rattle.mg_records.specs.Reading.{FindAdds};
 ghost use Rattle.mg_rows.specs.Found.{Keeps, passes_filter};
 ghost use Rattle.mg_calls.specs.Frames.{Frames};
 ghost use Rattle.mg_calls.specs.Quiet.{AreCalm, AreQuiet, IsQuietAt};
-ghost use Rattle.mg_exec.specs.Phases.{HasRead, IsReadyToRead, IsTypedFor, Leaves, ended as ended_by, filter_in, rolled_back_at};
+ghost use Rattle.mg_exec.specs.Phases.{AllKeptMayStand, AllMayStand, HasRead, IsBoundTo, IsReadyToRead, Leaves, ended as ended_by, filter_in, rolled_back_at};
 ghost use Rattle.mg_exec.specs.Progress.{IsBehind, Nears};
 ghost use Rattle.mg_exec.specs.Reading.{AreInOrder, Ends, IsWhatIsFound, KeepsRow, GoesOnWith, Reads};
 ghost use Rattle.mg_exec.specs.declared.phase.Phase.TheVariants as phases;
@@ -100,7 +100,8 @@ fn go_on<R: Records>(
 where
     R::Place: Drop,
     requires table { R.meaning.table r.old t.0 table.name ≡ Some table }
-    requires typed { IsTypedFor table bound.now }
+    requires binds { IsBoundTo table bound.now }
+    requires rows { AllMayStand table.shape rows.now }
     ensures goes { (o : Opening) (h : Entries) → R.meaning.stands r.old o h
         → GoesOnWith R.meaning r.new o h t table bound.now rows.now result }
     ensures behind { IsBehind (length rows.now + 1) result }
@@ -146,7 +147,8 @@ fn end_reading<R: Records>(
 where
     R::Place: Drop,
     requires table { R.meaning.table r.old t.0 table.name ≡ Some table }
-    requires typed { IsTypedFor table bound.now }
+    requires binds { IsBoundTo table bound.now }
+    requires rows { AllKeptMayStand table.shape kept.items }
     ensures ends { (o : Opening) (h : Entries) → R.meaning.stands r.old o h
         → Ends R.meaning r.new o h t table bound.now kept.items result }
     ensures behind { IsBehind (length kept.items + 1) result }

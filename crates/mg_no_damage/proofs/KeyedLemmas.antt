@@ -2,22 +2,25 @@
 use Rattle.std.proofs.Common.{◌≡◌, ◌≢◌, ◌∙◌, ◌⊎◌, inl, inr, ◌<◌, ◌≤◌, ◌+◌, ◌++◌, ◌==◌, ℕ, zero, suc, Bool, true, false, List, [], ◌∷◌, Option, Some, map, take, get_or, refl, sym, ap, subst, arith, cond}
 use Rattle.std.proofs.lemmas.Bool.{eq-eqb, le-leb, lt-leb, lt-ltb}
 use Rattle.std.specs.List.{prefix_len}
-use Rattle.std.specs.Prelude.{nat_le}
+use Rattle.std.specs.Prelude.{None, nat_le}
 use Rattle.mg_catalog.specs.LawfulLaws.{column_lawful, table_lawful}
 use Rattle.mg_catalog.specs.TableLaws.{some_shape}
 use Rattle.mg_image.specs.RecordRules.{allowing_null, columns_for, erased_from}
 use Rattle.mg_image.specs.Tables.{Stand}
+use Rattle.mg_image_openings.specs.Fits.{LaterAreNull, first_fits, later_null}
 use Rattle.mg_image_overlays.specs.TableOwners.{IsOneOf, one_each}
-use Rattle.mg_model.specs.Catalog.{CatalogRows, catalog_shape, column_key, columns_said, count_said, is_key_row, key_said, said_b, said_c, says_key, with_column}
+use Rattle.mg_model.specs.Catalog.{CatalogRows, catalog_shape, column_key, columns_said, count_said, is_key_row, key_said, said_b, said_c, says_key, shape_said, with_column}
 use Rattle.mg_model.specs.CatalogRules.{IsCatalog, IsKeyColumn, IsTable, IsTableRow}
 use Rattle.mg_model.specs.Changes.{Cells}
 use Rattle.mg_model.specs.declared.table.Table.{Table}
 use Rattle.mg_image_overlays.specs.OneTable.{one_standing}
+use Rattle.mg_rowcode.specs.Faults.{DecodesTo}
 use Rattle.mg_value.specs.Rows.{RowFits, columns_of}
 use Rattle.mg_value.specs.declared.shape.Column.{Column}
+use Rattle.mg_value.specs.declared.shape.Shape.{Shape}
 use Rattle.mg_value.specs.declared.value.Value.{Value}
 use Rattle.mg_value.specs.declared.value.Value.TheVariants.{Null}
-use Rattle.mg_no_damage.specs.Keyed.{IsKeyAt, IsKeyed, RowsAreKeyed, TablesAreKeyed}
+use Rattle.mg_no_damage.specs.Keyed.{IsKeyAt, IsKeyed, LaterColumnsAllowNull, RowsAreKeyed, RowsFit, TablesAreKeyed}
 
 -- ---- the value of the key
 
@@ -223,3 +226,43 @@ tables_are_keyed size state pages layout r sound table of = at (one_standing lay
     at (inr one) = named_keyed sound.names.all.rows sound.names.all.are_tables.lawful table
         (one_each (IsTable sound.names.all.rows) (map (λ (s : Stand). s.table) layout.tables) table
         sound.names.all.are_tables.each one)
+
+-- ---- columns that came later
+
+named_later : (rows : CatalogRows) (lawful : IsCatalog rows) (table : Table) → IsTable rows table
+    → LaterAreNull table.shape.columns
+named_later rows lawful table is = subst LaterAreNull
+    (columns_same (columns_said rows table.name 0 (count_said is.row)) is.shape)
+    (later_null rows lawful table.name 0 (count_said is.row))
+  where
+    columns_in : Option Shape → List Column
+    columns_in None = []
+    columns_in (Some shape) = shape.columns
+
+    columns_same : (columns : List Column) → shape_said rows table.name (Some is.row) ≡ Some table.shape
+        → columns_said rows table.name 0 (count_said is.row) ≡ table.shape.columns
+    columns_same columns same = ap columns_in same
+
+catalog_later : LaterAreNull catalog_shape.columns
+catalog_later = (no, (no, (no, (no, (no, (no, tt))))))
+  where
+    no : {A : Type 0} → true ≡ false → A
+    no is = absurd cc
+
+pub later_columns_allow_null : LaterColumnsAllowNull
+later_columns_allow_null size state pages layout r sound table of = at (one_standing layout table of)
+  where
+    at : (layout.catalog.table ≡ table) ⊎ IsOneOf (map (λ (s : Stand). s.table) layout.tables) table
+        → LaterAreNull table.shape.columns
+    at (inl same) = subst (λ (t : Table). LaterAreNull t.shape.columns) (sym sound.catalog ∙ same) catalog_later
+    at (inr one) = named_later sound.names.all.rows sound.names.all.are_tables.lawful table
+        (one_each (IsTable sound.names.all.rows) (map (λ (s : Stand). s.table) layout.tables) table
+        sound.names.all.are_tables.each one)
+
+pub rows_fit : RowsFit
+rows_fit table v row later first alive gives =
+    let codes : DecodesTo table.shape.columns v.format v.body row =
+    subst (λ (b : Bool). DecodesTo (columns_for table b) v.format v.body row) alive gives.coded in
+    let fits : RowFits (columns_of table.shape.columns 1) codes.values =
+    subst (λ (format : ℕ). RowFits (columns_of table.shape.columns format) codes.values) first codes.fits in
+    subst (RowFits table.shape.columns) (sym codes.whole) (first_fits table.shape.columns codes.values later fits)

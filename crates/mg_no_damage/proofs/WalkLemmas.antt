@@ -11,7 +11,7 @@ use Rattle.mg_base.specs.declared.numbers.TxNo.{TxNo}
 use Rattle.mg_chain.specs.Chains.{newest_link}
 use Rattle.mg_chain.specs.Views.{first_entry}
 use Rattle.mg_core.specs.Refusing.{CountsFault}
-use Rattle.mg_core.specs.Scanning.{FailsScan, IsEarly, IsStepDamage, LacksKey, Scans, early, no_key, no_page, no_visit, record_of, sequence_in}
+use Rattle.mg_core.specs.Scanning.{FailsScan, IsEarly, IsStepDamage, IsUnfit, LacksKey, Scans, early, no_key, no_page, no_visit, record_of, sequence_in, unfit}
 use Rattle.mg_core.specs.declared.parts.Core.{Core}
 use Rattle.mg_core.specs.declared.scanning.Place.{Place}
 use Rattle.mg_engine_meaning.specs.Reads.{AreRanked}
@@ -25,6 +25,7 @@ use Rattle.mg_heap.specs.Reading.{ReadsData}
 use Rattle.mg_heap.specs.Stands.{StandsIn}
 use Rattle.mg_heap.specs.Walk.{GivesNext}
 use Rattle.mg_image.specs.Form.{Pages, Row, packed_coding}
+use Rattle.mg_image_openings.specs.Fits.{LaterAreNull}
 use Rattle.mg_image.specs.RecordRules.{Each, Facts, IsVersion}
 use Rattle.mg_image.specs.Records.{cells_of, key_of, record_key, writer}
 use Rattle.mg_image.specs.Sound.{facts_by}
@@ -34,7 +35,7 @@ use Rattle.mg_model.specs.Changes.{KeyedRows}
 use Rattle.mg_model.specs.Openings.{everyone}
 use Rattle.mg_model.specs.declared.refusal.Refusal.{Refusal}
 use Rattle.mg_model.specs.declared.table.Table.{Table}
-use Rattle.mg_no_damage.specs.Keyed.{IsKeyed, RowsAreKeyed, TablesAreKeyed}
+use Rattle.mg_no_damage.specs.Keyed.{IsKeyed, LaterColumnsAllowNull, RowsAreKeyed, RowsFit, TablesAreKeyed}
 use Rattle.mg_no_damage.specs.Order.{WalksAscend, rank_in}
 use Rattle.mg_no_damage.specs.Sees.{PagesAreThere, no_batch}
 use Rattle.mg_no_damage.specs.Sound.{SoundRecordsAreLawful, SoundTablesStand}
@@ -58,6 +59,8 @@ use Rattle.mg_space.specs.View.{RefusesRead, Tells}
 use Rattle.mg_space.specs.ViewLaws.{tells_on}
 use Rattle.mg_space.specs.declared.fault.SpaceFault.{SpaceFault}
 use Rattle.mg_space.specs.declared.fault.SpaceFault.TheVariants as space
+use Rattle.mg_value.specs.Rows.{RowFits}
+use Rattle.mg_value.specs.declared.shape.Shape.{Shape}
 use Rattle.mg_space.specs.declared.links.FireLinks.{FireLinks}
 use Rattle.mg_value.specs.declared.value.Value.TheVariants.{Null}
 use Rattle.mg_no_damage.specs.Walks.{IsShortPlace, VisitsMeetNone}
@@ -87,6 +90,14 @@ gives_row table p row is = at p.version.deleted is
     at true none = absurd cc
     at false (its, same, gives) = let one : its ≡ row = cc in subst (GivesRow table p.version) one gives
 
+is_alive : (table : Table) (p : Placed) (row : Row) → IsRowFound table (Some p) (Some row)
+    → p.version.deleted ≡ false
+is_alive table p row is = at p.version.deleted is
+  where
+    at : (deleted : Bool) → IsRowOr deleted table p.version (Some row) → deleted ≡ false
+    at true none = absurd cc
+    at false its = refl
+
 -- The laws of what is read over lawful records.
 pub record ReadsOfWalks {D : Type 0} (m : Meaning D) : Type 0 where
   pub visits : VisitsAreMade m
@@ -94,6 +105,8 @@ pub record ReadsOfWalks {D : Type 0} (m : Meaning D) : Type 0 where
   pub ascend : WalksAscend
   pub tables : TablesAreKeyed
   pub rows : RowsAreKeyed
+  pub later : LaterColumnsAllowNull
+  pub fit : RowsFit
   pub lawful : SoundRecordsAreLawful
   pub stand : SoundTablesStand
   pub order : WalksInOrder
@@ -199,6 +212,27 @@ module _ {D : Type 0} (m : Meaning D) (laws : ReadsOfWalks m) (store : Pool D Fi
       at None seen_ lacks_ = lacks_
       at (Some row) seen_ lacks_ = by row seen_.found seen_.first seen_.gives lacks_.0
 
+  columns_later : LaterAreNull table.shape.columns
+  columns_later = subst (λ (shape : Shape). LaterAreNull shape.columns) come.shown.same.shape
+      (laws.later store.geometry.size (left_state everyone s.state) view come.layout come.reading come.sound
+      come.shown.its come.shown.stands)
+
+  fit_whole : (visit : Visit) → IsVisit s.state s.live t view table (rec_of place) (Some visit)
+      → (fault : SpaceFault) → IsUnfit table visit.rec.page.0 visit.row fault → ⊥
+  fit_whole visit (gives, seen) fault is_unfit = at visit.row seen is_unfit
+    where
+      by : (row : Row) (found : Option Placed) → IsFirst view takes visit.rec found
+          → IsRowFound table found (Some row) → RowFits table.shape.columns row
+      by row None first is = absurd cc
+      by row (Some p) first is = laws.fit table p.version row columns_later
+          (first_format visit.rec (listed visit.rec gives) p first) (is_alive table p row is)
+          (gives_row table p row is)
+
+      at : (row : Option Row) → IsRowSeen s.state s.live t view table visit.rec row
+          → IsUnfit table visit.rec.page.0 row fault → ⊥
+      at None seen_ is = is
+      at (Some row) seen_ is = is.0 (by row seen_.found seen_.first seen_.gives)
+
 -- ---- by the places of the core
 
 module _ {D : Type 0} (m : Meaning D) (laws : ReadsOfWalks m) (places : Places Place) (ranked : AreRanked places)
@@ -245,6 +279,9 @@ module _ {D : Type 0} (m : Meaning D) (laws : ReadsOfWalks m) (places : Places P
   step_whole _ (no_key visit fault visited lacks) it is =
       key_whole m laws store image tells s t table (place_at places after) rows come visit (as_walked visit visited)
       fault lacks
+  step_whole _ (unfit visit fault visited is_unfit) it is =
+      fit_whole m laws store image tells s t table (place_at places after) rows come visit (as_walked visit visited)
+      fault is_unfit
 
 -- ---- the call
 

@@ -2,7 +2,7 @@
 
 ghost use Rattle.mg_space.specs.FreePages.{TakingKeepsRegions};
 ghost use Rattle.mg_no_damage.specs.Inventory.{PagesAreTaken};
-ghost use Rattle.mg_no_damage.specs.Keyed.{RowsAreKeyed, TablesAreKeyed};
+ghost use Rattle.mg_no_damage.specs.Keyed.{LaterColumnsAllowNull, RowsAreKeyed, RowsFit, TablesAreKeyed};
 ghost use Rattle.mg_no_damage.specs.Keys.{KeysAreRead, ObstaclesAreRead, SpeakersAreRead, WaysAreRead};
 ghost use Rattle.mg_no_damage.specs.Order.{WalksAscend};
 ghost use Rattle.mg_no_damage.specs.Records.{ChainsAreWhole, RowsAreRead, VersionsAreThere};
@@ -81,10 +81,12 @@ pub fn walks_ascend()
     tables_of_layouts_are_walked();
 }
 
-/// A row of a table of a sound image has its key.
+/// A row of a table of a sound image has its key, and fits the table.
 pub fn rows_are_keyed()
     ensures tables { TablesAreKeyed }
     ensures rows { RowsAreKeyed }
+    ensures later { LaterColumnsAllowNull }
+    ensures fit { RowsFit }
 {}
 
 /// The records of a sound image are lawful, and its tables stand.

@@ -3,7 +3,6 @@ use Rattle.std.specs.Prelude.{◌≡◌, ℕ, true, None, Result, IsOk}
 use Rattle.mg_base.specs.Disk.{Rose}
 use Rattle.mg_base.specs.declared.numbers.TxNo.{TxNo}
 use Rattle.mg_base.specs.declared.transaction.TxState.TheVariants.{Active}
-use Rattle.mg_model.specs.declared.event.Event.TheVariants.{Commit, Rollback}
 use Rattle.mg_model.specs.declared.event.Event.{Event}
 use Rattle.mg_model.specs.declared.opening.Opening.{Opening}
 use Rattle.mg_model.specs.declared.refusal.Refusal.{Refusal}

@@ -1,5 +1,5 @@
 -- A commit is answered Ok where its transaction is active and no page write fails.
-use Rattle.std.proofs.Common.{◌≡◌, ◌∙◌, inl, inr, ℕ, None, Some, Ok, Err, refl, sym, ap, subst, true, false}
+use Rattle.std.proofs.Common.{◌≡◌, ◌∙◌, inl, inr, ℕ, Ok, Err, refl, sym, ap, subst}
 use Rattle.std.proofs.lemmas.Bool.{false≢true}
 use Rattle.std.proofs.lemmas.Option.{none-some}
 use Rattle.mg_base.specs.declared.numbers.TxNo.{TxNo}

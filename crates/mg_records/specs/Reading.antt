@@ -1,9 +1,10 @@
 -- Tables and rows as a transaction sees them.
-use Rattle.std.specs.Prelude.{◌≡◌, ℕ, ◌<◌, ◌≤◌, List, [], ◌∷◌, length, Option, Some, None, Result, Ok, Err, IsPermutation, if◌then◌else◌}
+use Rattle.std.specs.Prelude.{◌≡◌, ◌≢◌, ℕ, ◌<◌, ◌≤◌, List, [], ◌∷◌, length, Option, Some, None, Result, Ok, Err, IsPermutation, if◌then◌else◌}
 use Rattle.mg_base.specs.declared.numbers.TxNo.{TxNo}
 use Rattle.mg_base.specs.declared.transaction.TxState.TheVariants.{Active}
 use Rattle.mg_value.specs.declared.shape.Shape.{Shape}
 use Rattle.mg_value.specs.declared.shape.TheConstants.{MOST_COLUMNS}
+use Rattle.mg_value.specs.Rows.{RowFits}
 use Rattle.mg_expr.specs.declared.expr.Expr.{Expr}
 use Rattle.mg_model.specs.declared.answer.Answer.TheVariants.{Rows, No}
 use Rattle.mg_model.specs.declared.event.Event.TheVariants.{Find}
@@ -12,8 +13,9 @@ use Rattle.mg_model.specs.declared.refusal.Refusal.{Refusal}
 use Rattle.mg_model.specs.declared.refusal.Refusal.TheVariants.{NoTable}
 use Rattle.mg_model.specs.declared.table.Table.{Table}
 use Rattle.mg_value.specs.declared.value.Value.{Value}
+use Rattle.mg_value.specs.declared.value.Value.TheVariants.{Null}
 use Rattle.mg_model.specs.Changes.{Cells, KeyedRows, same_name, rows_of}
-use Rattle.mg_model.specs.Catalog.{CatalogRows, catalog_name, table_key, shape_said}
+use Rattle.mg_model.specs.Catalog.{CatalogRows, catalog_name, key_of, table_key, shape_said}
 use Rattle.mg_model.specs.History.{Entries, entry}
 use Rattle.mg_model.specs.Machine.{state_of, view}
 use Rattle.mg_model.specs.Answers.{told, catalog_of, answer}
@@ -71,6 +73,22 @@ Nears m old new t table after (Ok (Some found)) = m.is_place new table found.pla
     × m.has_record new t table found.place
 Nears m old new t table after (Ok None) = Unit {0}
 Nears m old new t table after (Err r) = Unit {0}
+
+-- A row may stand in a table of the shape: it fits the columns, and has a key.
+pub record MayStand (shape : Shape) (row : Cells) : Type 0 where
+  pub fits : RowFits shape.columns row
+  pub keyed : key_of shape row ≢ Null
+
+-- the row of a record may stand there and has the key under which it is found, if there is one
+abbrev pub StandsUnderKey : Shape → Option (Value × Cells) → Type 0
+StandsUnderKey shape None = Unit {0}
+StandsUnderKey shape (Some keyed) = MayStand shape keyed.1 × (key_of shape keyed.1 ≡ keyed.0)
+
+-- so does the row that a visit gives, whatever the keeper stands for
+abbrev pub FindsFitting : {P : Type 0} → Shape → Result (Option (Found P)) Refusal → Type 0
+FindsFitting shape (Ok None) = Unit {0}
+FindsFitting shape (Ok (Some found)) = StandsUnderKey shape found.row
+FindsFitting shape (Err refusal) = Unit {0}
 
 -- rows behind a row, if there is one
 abbrev pub with_found : Option (Value × Cells) → KeyedRows → KeyedRows

@@ -11,7 +11,7 @@ ghost use Rattle.mg_records.specs.Crashing.{CrashesHold, HoldsOn, LeavesQuietly,
 ghost use Rattle.mg_records.specs.Sessions.{SessionsAreOne, SessionsStay, begun_in, ended_in, given_up_in};
 ghost use Rattle.mg_records.specs.Asking.{EndsInItsRoom, TakesNoPage, TakesNothing, WritesNoPage, WritesOnePage};
 ghost use Rattle.mg_records.specs.Adding.{Adds, AnswersAll, fine_or, number_or, drawn_in};
-ghost use Rattle.mg_records.specs.Reading.{TellsTable, IsTableGiven, TablesAreSeen, IsPlace, Nears, Visits, WalksAreWhole, FindAdds};
+ghost use Rattle.mg_records.specs.Reading.{TellsTable, IsTableGiven, TablesAreSeen, IsPlace, Nears, FindsFitting, Visits, WalksAreWhole, FindAdds};
 ghost use Rattle.mg_records.specs.Writing.{FitsShape, FitsPages, IsNewShape, MakesTable, event_of};
 ghost use Rattle.mg_records.specs.TakingBack.{GoesBack, Undoes};
 ghost use Rattle.mg_records.specs.Committing.{PagesAreFew, WritesOne};
@@ -85,7 +85,7 @@ pub trait Records {
         ensures sessions { SessionsStay meaning self.old self.new None None };
 
     /// Visits the next record of a table after a place, the first one for None. It answers None
-    /// exactly where there is no further record.
+    /// exactly where there is no further record. A row that it gives may stand in the table.
     fn scan_step(
         &mut self,
         t: TxNo,
@@ -96,6 +96,7 @@ pub trait Records {
         requires place { IsPlace meaning self.old table.now (option_copied after) }
         ensures answers { AnswersAll meaning self.old t.0 result }
         ensures nears { Nears meaning self.old self.new t.0 table.now (option_copied after.entry) result }
+        ensures fits { FindsFitting table.now.shape result }
         ensures visits { (rows : KeyedRows)
             → meaning.to_come self.old t.0 table.now (option_copied after.entry) rows
             → Visits meaning self.new t.0 table.now result rows }

@@ -1,12 +1,13 @@
 //! The plain machine as a keeper of records.
 
-ghost use Rattle.std.specs.Prelude.{◌≡◌, ◌≤◌, ◌&&◌, not, IfOk, OnErr, OnOk, length};
+ghost use Rattle.std.specs.Prelude.{◌≡◌, ◌≤◌, ◌↔◌, ◌&&◌, not, IfOk, IsTrue, OnErr, OnOk, Ok, Some, length};
 ghost use Rattle.mg_model.specs.Answers.{is_active};
 ghost use Rattle.mg_model.specs.Machine.{has_point};
 ghost use Rattle.mg_plain.specs.Keeping.{known_of, with_session};
 ghost use Rattle.std.specs.Option.{option_copied};
 ghost use Rattle.mg_value.specs.declared.shape.TheConstants.{MOST_COLUMNS};
-ghost use Rattle.mg_model.specs.Catalog.{catalog_name};
+ghost use Rattle.mg_model.specs.Catalog.{catalog_name, key_of};
+ghost use Rattle.mg_records.specs.Reading.{FindsFitting, StandsUnderKey};
 ghost use Rattle.mg_plain.specs.Obeying.{as_number as as_number_of};
 ghost use Rattle.mg_records.specs.Writing.{rows_made as rows_made_of};
 ghost use Rattle.mg_plain.specs.Records.{means, behind, rows_seen, FoundAt, InsertsAll};
@@ -21,8 +22,9 @@ use mg_catalog::rows_of;
 use mg_expr::Expr;
 use mg_model::{Answer, CATALOG, Event, Indexes, Mode, Point, Refusal, Rows, Table};
 use mg_records::{Found, Records, Write};
-use mg_value::{Key, Name, Row, Shape, Value};
+use mg_value::{Key, Name, Row, Shape, Value, order, row_fits, values_are_ordered};
 use std::alloc::Global;
+use std::cmp::Ordering;
 
 /// How many rows stand up to a place.
 fn number_behind(after: Option<&usize>) -> usize
@@ -53,10 +55,34 @@ fn rows_made(alloc: Global, name: &Name, shape: &Shape) -> Result<Vec<Row>, Memo
     Ok(rows)
 }
 
-/// A copy of a row with its key. One whose key is NULL is told as want of memory.
-fn keyed(alloc: Global, row: &(Value, Row)) -> Result<(Key, Row), Memory>
-    ensures { IfOk result (λ keyed. keyed ≡ row.now) }
+/// Tells whether two values are equal.
+fn is_same(a: &Value, b: &Value) -> bool
+    ensures { IsTrue result ↔ (a.now ≡ b.now) }
 {
+    values_are_ordered();
+    matches!(order(a, b), Ordering::Equal)
+}
+
+/// Tells whether the key of a row of a shape is this value.
+fn has_key(shape: &Shape, row: &Row, key: &Value) -> bool
+    ensures { IsTrue result ↔ (key_of shape.now row.now ≡ key.now) }
+{
+    values_are_ordered();
+    match row.as_slice().get(usize::from(shape.key)) {
+        None => key.is_null(),
+        Some(value) => is_same(value, key),
+    }
+}
+
+/// A copy of a row with its key. One that may not stand under it in a table of the shape, which no call has put there, is
+/// told as want of memory.
+fn keyed(alloc: Global, shape: &Shape, row: &(Value, Row)) -> Result<(Key, Row), Memory>
+    ensures is { IfOk result (λ keyed. keyed ≡ row.now) }
+    ensures stands { IfOk result (λ keyed. StandsUnderKey shape.now (Some keyed)) }
+{
+    if !row_fits(shape, &row.1) || !has_key(shape, &row.1, &row.0) {
+        return Err(Memory);
+    }
     let Some(key) = Key::new(row.0.copy(alloc)?) else {
         return Err(Memory);
     };
@@ -109,18 +135,19 @@ impl Plain {
 
     /// A copy of the row with a number among those that a transaction sees, None past the last one.
     ///
-    /// A row that stands under NULL, as none does that fits its table, is told as want of memory.
-    fn seen_at(&self, t: u32, table: &Name, at: usize) -> Result<Option<Found<usize>>, Memory>
-        ensures { FoundAt (rows_seen (kept self.now) t table.now) at result }
+    /// A row that may not stand in the table, as none does that was written, is told as want of memory.
+    fn seen_at(&self, t: u32, table: &Table, at: usize) -> Result<Option<Found<usize>>, Memory>
+        ensures found { FoundAt (rows_seen (kept self.now) t table.now.name) at result }
+        ensures fits { IfOk result (λ found. FindsFitting table.now.shape (Ok found)) }
     {
-        let rows = self.seen_rows(t, table)?;
+        let rows = self.seen_rows(t, &table.name)?;
         if at >= rows.len() {
             return Ok(None);
         }
         match rows.get(at) {
             Some(row) => Ok(Some(Found {
                 place: at + 1,
-                row: Some(keyed(self.alloc, row)?),
+                row: Some(keyed(self.alloc, &table.shape, row)?),
             })),
             None => Ok(None),
         }
@@ -194,7 +221,7 @@ impl Records for Plain {
             Err(refusal) => return Err(refusal),
         }
         let place = number_behind(after);
-        match self.seen_at(t.0, &table.name, place) {
+        match self.seen_at(t.0, table, place) {
             Ok(found) => Ok(found),
             Err(_) => Err(Refusal::Memory),
         }

@@ -1,4 +1,5 @@
-use Rattle.std.proofs.Common.{◌≡◌, ℕ, true, List, [], map, length, sym, ap, subst, ◌∙◌}
+use Rattle.std.proofs.Common.{◌≡◌, ◌==◌, ℕ, true, List, [], map, sym, ap, subst, ◌∙◌}
+use Rattle.std.specs.List.{list_any}
 use Rattle.std.specs.Result.{MatchResult}
 use Rattle.mg_expr.specs.declared.expr.Expr.{Expr}
 use Rattle.mg_expr.specs.Trees.{tree_of}
@@ -11,7 +12,8 @@ use Rattle.mg_plan.specs.Statements.{is_typed}
 use Rattle.mg_rows.specs.NewRows.{updated}
 use Rattle.mg_records.specs.Writing.{FitsShape}
 use Rattle.mg_exec.specs.Making.{AreMade, MakesNone, changes_of, made_by}
-use Rattle.mg_exec.proofs.MakingLemmas.{sets_lengths}
+use Rattle.mg_exec.specs.Phases.{LeavesKeys}
+use Rattle.mg_exec.proofs.MakingLemmas.{sets_typed}
 use Rattle.mg_exec.proofs.making.make_writes.Goals as goal
 
 pub insert_values-requires : goal.insert_values-requires
@@ -20,16 +22,23 @@ insert_values-requires c =
     (map (λ t. sort_of t []) (map tree_of x.1)) ≡ true)
     (sym (λ k. (c.deref.ensures.value k, c.deref-in-Insert.ensures.value k)))
     (subst (λ (s : Statement). is_typed c.args.table.now.shape.columns c.args.bound.now.places.items (plain_of s) ≡ true)
-    c.in-Insert.is c.requires)
+    c.in-Insert.is c.requires.binds.typed)
 
-pub update_found-requires : goal.update_found-requires
-update_found-requires c =
-    ap (λ (xs : List ℕ). length xs) c.deref-in-Update.ensures.value
-    ∙ sets_lengths c.args.table.now.shape.columns c.args.bound.now.places.items c.in-Update.sets.items
+pub update_found-requires-clause-typed : goal.update_found-requires-clause-typed
+update_found-requires-clause-typed c =
+    subst (λ (x : List ℕ × List Assign). fit_places c.args.table.now.shape.columns x.0
+    (map (λ t. sort_of t c.args.table.now.shape.columns) (map (λ set. tree_of set.value) x.1)) ≡ true)
+    (sym (λ k. (c.deref-in-Update.ensures.value k, c.deref-in-Update-2.ensures.value k)))
+    (sets_typed c.args.table.now.shape.columns c.args.bound.now.places.items c.in-Update.sets.items
     (tree_in c.in-Update.filter)
     (subst (λ (s : Statement). is_typed c.args.table.now.shape.columns c.args.bound.now.places.items (plain_of s) ≡ true)
-    c.in-Update.is c.requires)
-    ∙ sym (ap (λ (xs : List Assign). length xs) c.deref-in-Update-2.ensures.value)
+    c.in-Update.is c.requires.binds.typed))
+
+pub update_found-requires-clause-keys : goal.update_found-requires-clause-keys
+update_found-requires-clause-keys c =
+    ap (list_any (λ place. place == c.args.table.now.shape.key)) c.deref-in-Update.ensures.value
+    ∙ subst (λ (s : Statement). LeavesKeys c.args.table.now.shape c.args.bound.now.places.items (plain_of s))
+    c.in-Update.is c.requires.binds.keys
 
 pub returns-in-Update : goal.returns-in-Update
 returns-in-Update c =

@@ -5,8 +5,12 @@ use Rattle.mg_exec.specs.Phases.{rolled_back_at}
 use Rattle.mg_exec.specs.Reading.{in_order}
 use Rattle.mg_exec.proofs.FrameLemmas.{frames_none}
 use Rattle.mg_exec.proofs.ProgressLemmas.{refused_at_end}
-use Rattle.mg_exec.proofs.ReadLemmas.{behind_rows, not_told, told_on, refused_leaves, then_leaves}
+use Rattle.mg_exec.proofs.ReadLemmas.{behind_rows, not_told, told_on, refused_leaves, then_leaves, told_fit}
 use Rattle.mg_exec.proofs.reading.end_reading.Goals as goal
+
+pub go_on-requires-clause-rows : goal.go_on-requires-clause-rows
+go_on-requires-clause-rows g c =
+    told_fit c.args.table.shape c.args.kept.items c.in-Ok.rows c.in-Ok.ensures c.requires.rows
 
 pub returns-in-Ok-tell-clause-ends : goal.returns-in-Ok-tell-clause-ends
 returns-in-Ok-tell-clause-ends g c = λ o h stands.

@@ -4,7 +4,7 @@ use Rattle.mg_model.specs.Changes.{Cells}
 use Rattle.mg_rows.specs.declared.statement_fault.StatementFault.{StatementFault}
 use Rattle.mg_exec.specs.declared.phase.Step.{Step}
 use Rattle.mg_exec.specs.Changing.{StartsToWrite}
-use Rattle.mg_exec.specs.Phases.{ended}
+use Rattle.mg_exec.specs.Phases.{AllMayStand, ended}
 use Rattle.mg_rows.specs.Answering.{Answers}
 use Rattle.mg_exec.specs.Reading.{answers, writes}
 use Rattle.mg_calls.specs.QuietLaws.{quiet_nothing}
@@ -23,6 +23,10 @@ pub returns-then-is_select-clause-leaves : goal.returns-then-is_select-clause-le
 returns-then-is_select-clause-leaves g c =
     answer_leaves g.R.Records.meaning c.args.r.now c.args.t.0 c.answer.result c.as_answer.result
     c.ended.result c.as_answer.ensures c.ended.ensures
+
+pub start_to_write-requires-clause-rows : goal.start_to_write-requires-clause-rows
+start_to_write-requires-clause-rows g c =
+    subst (AllMayStand c.args.table.shape) (sym c.as_slice-2.ensures) c.requires.rows
 
 pub returns-clause-goes : goal.returns-clause-goes
 returns-clause-goes g c = λ o h stands.

@@ -1,10 +1,12 @@
-use Rattle.std.proofs.Common.{None, Some, Ok, length, refl, ap, subst, ◌∙◌, arith}
+use Rattle.std.proofs.Common.{None, Some, Ok, length, refl, ap, sym, subst, ◌∙◌, arith}
 use Rattle.mg_calls.specs.declared.walking.Visit.{Visit}
 use Rattle.mg_calls.specs.declared.walking.Visit.TheVariants as visits
-use Rattle.mg_calls.specs.Walks.{GoesOn, Progresses}
+use Rattle.mg_calls.specs.Walks.{ComesToFitting, GoesOn, Progresses}
 use Rattle.mg_calls.specs.FrameLaws.{frames_reads}
 use Rattle.mg_value.specs.declared.value.Value.{Value}
+use Rattle.mg_model.specs.declared.table.Table.{Table}
 use Rattle.mg_model.specs.Changes.{Cells}
+use Rattle.mg_records.specs.Reading.{MayStand}
 use Rattle.mg_exec.specs.Reading.{KeepsRow, comes_on}
 use Rattle.mg_calls.specs.QuietLaws.{quiet_then_at}
 use Rattle.mg_rows.specs.declared.statement_fault.StatementFault.TheVariants.{Engine}
@@ -108,6 +110,12 @@ returns-in-Ok-Record-Some-clause-leaves g c =
     c.visit_next.ensures.calm
     (reads_on g.R.Records.meaning c.args.r.now c.visit_next.new.r c.args.t.0 c.args.reading
     c.visit_next.new.walk c.requires.ready c.visit_next.ensures.table c.visit_next.ensures.ready)
+    (subst (λ (r : Value × Cells). MayStand c.visit_next.new.walk.table.shape r.1)
+    (sym c.in-Ok-Record-Some.keyed-is)
+    (subst (λ (table : Table). MayStand table.shape c.in-Ok-Record-Some.keyed.1) (sym c.visit_next.ensures.table)
+    (subst (λ (visit : Visit). ComesToFitting c.args.reading.walk.table.shape (Ok visit))
+    (c.in-Ok-Record-Some.field-0-is ∙ ap visits.Record c.in-Ok-Record-Some.field-0-0-is)
+    c.in-Ok-Record-Some.ensures.fits).0))
     c.keep_row.ensures
 
 pub returns-in-Ok-Record-None-clause-leaves : goal.returns-in-Ok-Record-None-clause-leaves

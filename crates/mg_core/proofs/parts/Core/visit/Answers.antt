@@ -47,7 +47,7 @@ returns-in-Ok-keyed g c = record {
         c.args.table.now c.args.after c.record_of-from.result c.new-states.ensures c.record_of-from.ensures
         c.in-Ok-Some.visit c.in-Ok-Some.field-0 c.in-Ok-Some.field-0-is c.in-Ok-Some.ensures.keeps
         c.in-Ok-Some.ensures.gives c.place_behind.new.store
-        c.in-Ok.place c.in-Ok-keyed.row c.in-Ok.ensures.places c.in-Ok.ensures.of c.in-Ok-keyed.ensures,
+        c.in-Ok.place c.in-Ok-keyed.row c.in-Ok.ensures.places c.in-Ok.ensures.of c.in-Ok-keyed.ensures.0,
     c.in-Ok.ensures.behind,
     record {
       keeps = keeps_on g.D.Disk.meaning g.met.D.Disk.counts_now c.args.self.now.store c.view_step.new.store
@@ -59,6 +59,7 @@ returns-in-Ok-keyed g c = record {
       );
     },
     refl,
+    c.in-Ok-keyed.ensures.1,
   );
 }
 

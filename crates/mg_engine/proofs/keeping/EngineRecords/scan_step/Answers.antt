@@ -1,7 +1,7 @@
 use Rattle.std.specs.Option.{option_copied}
 use Rattle.mg_records.specs.Keeping.{refusal_in}
 use Rattle.mg_engine.specs.Places.{places}
-use Rattle.mg_engine.proofs.ReadLemmas.{may_scan, scans_apart, visits_as, visits_undamaged}
+use Rattle.mg_engine.proofs.ReadLemmas.{may_scan, scans_apart, scans_fit, visits_as, visits_undamaged}
 use Rattle.mg_engine.proofs.AskedLemmas.{unwritten_as}
 use Rattle.mg_engine.proofs.ToldLemmas.{room_as, told_as}
 use Rattle.mg_engine.proofs.RoomLemmas.{reads_room}
@@ -33,6 +33,10 @@ returns-clause-nears g c = nears_with (means g.D.Disk.meaning places) c.args.sel
     c.self.view_is c.self.invariant c.counts_fit.ensures.0 c.counts_fit.ensures.1 c.visits_go_on.ensures c.args.t
     c.args.table.now c.copied.result (option_copied c.args.after) c.scan_step-visited.result c.copied.ensures
     c.in_rank.ensures c.scan_step-visited.ensures.scans).nears)
+
+pub returns-clause-fits : goal.returns-clause-fits
+returns-clause-fits g c = scans_fit g.D.Disk.meaning c.self.inside.core c.scan_step-visited.new.self c.args.t
+    c.args.table.now c.copied.result c.scan_step-visited.result c.scan_step-visited.ensures.scans
 
 pub returns-clause-visits : goal.returns-clause-visits
 returns-clause-visits g c = λ rows comes. visits_with (means g.D.Disk.meaning places) c.scan_step-visited.new.self c.args.t.0 c.args.table.now c.scan_step-visited.result rows
