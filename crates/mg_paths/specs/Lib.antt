@@ -1,0 +1,4 @@
+pub mod CoverLaws
+pub mod Covering
+pub mod Plans
+pub mod Ranges
