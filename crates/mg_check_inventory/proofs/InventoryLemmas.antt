@@ -18,7 +18,7 @@ use Rattle.mg_image.specs.Sound.{HasRegion}
 use Rattle.mg_pip.specs.PipPage.{bits, pip_checks}
 use Rattle.mg_check_inventory.specs.ImagePages.{IsWholeImage, bit_checks, numbered}
 use Rattle.mg_check_inventory.specs.InventoryRung.{InventoryLaw, IsFoundBelow, IsInventoryFinding, IsRegionFinding, region_checks}
-use Rattle.mg_check_inventory.proofs.TestLemmas.{bit_is_set, none_where_passes, passes_parts, passes_where_none, set_is_one}
+use Rattle.mg_check_inventory.specs.TestLaws.{bit_is_set, none_where_passes, passes_parts, passes_where_none, set_is_one}
 
 -- ---- a region
 

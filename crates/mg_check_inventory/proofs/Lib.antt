@@ -1,6 +1,5 @@
 pub mod InventoryLemmas
 pub mod PlaceLemmas
-pub mod TestLemmas
 pub mod TipLemmas
 pub mod TransactionLemmas
 pub mod UsedLemmas

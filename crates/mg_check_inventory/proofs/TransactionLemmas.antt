@@ -22,7 +22,7 @@ use Rattle.mg_image.specs.Sound.{HasNoneUndrawn, HasTransactions, IsUndrawn}
 use Rattle.mg_tip.specs.TipPage.{places, prev_in, state_in, tip_checks}
 use Rattle.mg_check_inventory.specs.ImagePages.{IsWholeImage, bit_checks, lawful_link, link_checks, numbered, presence_checks}
 use Rattle.mg_check_inventory.specs.TransactionRung.{IsChainFinding, IsContentFinding, IsPageFinding, IsThereFinding, IsTipFinding, TransactionLaw, drawn_on}
-use Rattle.mg_check_inventory.proofs.TestLemmas.{bit_is_set, first_handed, none_where_passed, none_where_passes, passes_where_none, set_is_one}
+use Rattle.mg_check_inventory.specs.TestLaws.{bit_is_set, first_handed, none_where_passed, none_where_passes, passes_where_none, set_is_one}
 
 -- ---- one page
 

@@ -1,3 +1,4 @@
 pub mod ImagePages
 pub mod InventoryRung
+pub mod TestLaws
 pub mod TransactionRung

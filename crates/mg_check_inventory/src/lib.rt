@@ -22,6 +22,6 @@ mod transactions;
 
 pub use inventory::inventory_findings;
 pub use laws::{lawful_inventories_pass, lawful_transactions_pass};
-pub use pages::{check_bit, page_of};
+pub use pages::{check_bit, check_link, check_presence, page_of};
 pub use tips::check_tips;
 pub use transactions::transaction_findings;

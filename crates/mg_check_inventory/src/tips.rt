@@ -1,18 +1,17 @@
 //! The chain of transaction inventory pages.
 
 ghost use Rattle.std.specs.Prelude.{◌≡◌, ◌↔◌, ◌<◌, ◌*◌, ◌-◌, OnOk, length, true};
-ghost use Rattle.mg_base.specs.Checks.{verdict};
 ghost use Rattle.mg_base.specs.Geometry.{is_page_size};
 ghost use Rattle.mg_base.specs.Image.{page_at};
 ghost use Rattle.mg_base.specs.declared.geometry.TheConstants.{GREATEST_LIMIT};
 ghost use Rattle.mg_findings.specs.Findings.{Tells};
 ghost use Rattle.mg_findings.specs.declared.finding.Finding.{Finding as AFinding};
 ghost use Rattle.mg_tip.specs.TipPage.{places as places_in};
-ghost use Rattle.mg_check_inventory.specs.ImagePages.{IsWholeImage, lawful_link as lawful_link_of, link_checks, numbered, presence_checks};
+ghost use Rattle.mg_check_inventory.specs.ImagePages.{IsWholeImage};
 ghost use Rattle.mg_check_inventory.specs.TransactionRung.{IsContentFinding, IsPageFinding, IsThereFinding, IsTipFinding, IsTipsFinding};
 
-use crate::pages::{check_bit, page_of};
-use mg_base::{Bytes, Damaged, Field, GREATEST_LIMIT, PageNo, check_field, get_u32};
+use crate::pages::{check_bit, check_link, check_presence, page_of};
+use mg_base::{Bytes, Damaged, GREATEST_LIMIT, PageNo, get_u32};
 use mg_check_pages::check_undrawn;
 use mg_header::{LAST_TIP_AT, NEXT_AT};
 use mg_tip::{check_tip, prev_of};
@@ -24,48 +23,6 @@ fn places_of(size: u32) -> u32
     ensures some { 0 < result }
 {
     4 * (size - 20)
-}
-
-/// The number itself where a link may name it, else the greatest that one may name.
-fn lawful_link(n: u32) -> u32
-    ensures { result ≡ lawful_link_of n }
-{
-    if n == 0 || n >= GREATEST_LIMIT {
-        GREATEST_LIMIT - 1
-    } else {
-        n
-    }
-}
-
-/// Tests a link that has to lead to a page.
-///
-/// # Errors
-///
-/// `Damaged` at `Field::Link` of its holder, exactly where it names the header page or one past the
-/// greatest limit.
-fn check_link(holder: u32, n: u32) -> Result<(), Damaged>
-    ensures test { result ≡ verdict (numbered holder) (link_checks n) }
-    ensures below { OnOk result (n < GREATEST_LIMIT) }
-{
-    check_field(PageNo(holder), Field::Link, n, lawful_link(n))
-}
-
-/// Tests that a file of so many pages has a page.
-fn check_presence(count: usize, n: u32) -> Result<(), Damaged>
-    requires { n < GREATEST_LIMIT }
-    ensures test { result ≡ verdict (numbered n) (presence_checks count n) }
-    ensures there { OnOk result (n < count) }
-{
-    if (n as usize) < count {
-        Ok(())
-    } else {
-        Err(Damaged {
-            page: PageNo(n),
-            field: Field::Presence,
-            found: count as u64,
-            wanted: u64::from(n) + 1,
-        })
-    }
 }
 
 /// Tests a transaction inventory page whose fields are lawful: the numbers from a place on, which

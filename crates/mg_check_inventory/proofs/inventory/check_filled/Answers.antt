@@ -1,8 +1,8 @@
 use Rattle.mg_base.specs.Image.{page_at}
 use Rattle.mg_pip.specs.PipPage.{pip_checks}
 use Rattle.mg_check_inventory.specs.ImagePages.{bit_checks}
-use Rattle.mg_check_inventory.proofs.TestLemmas.{handed_on}
-use Rattle.mg_check_inventory.proofs.TipLemmas.{append_handed, append_next}
+use Rattle.mg_check_inventory.specs.TestLaws.{handed_on}
+use Rattle.mg_check_inventory.specs.TestLaws.{append_handed, append_next}
 use Rattle.mg_check_inventory.proofs.inventory.check_filled.Goals as goal
 
 pub returns-in_err-check_pip : goal.returns-in_err-check_pip

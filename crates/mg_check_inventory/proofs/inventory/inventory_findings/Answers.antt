@@ -4,7 +4,7 @@ use Rattle.mg_findings.specs.RungLaws.{list_as}
 use Rattle.mg_check_inventory.specs.InventoryRung.{IsInventoryFinding, IsRegionFinding}
 use Rattle.mg_check_inventory.proofs.InventoryLemmas.{all_below, below_more}
 use Rattle.mg_check_inventory.proofs.PlaceLemmas.{some_bits}
-use Rattle.mg_check_inventory.proofs.TestLemmas.{some_told}
+use Rattle.mg_check_inventory.specs.TestLaws.{some_told}
 use Rattle.mg_check_inventory.proofs.inventory.inventory_findings.Goals as goal
 
 pub loop-region-preserved : goal.loop-region-preserved

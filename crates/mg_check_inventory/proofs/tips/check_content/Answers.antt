@@ -4,7 +4,7 @@ use Rattle.mg_check_pages.specs.PageTests.{undrawn_test}
 use Rattle.mg_findings.specs.Findings.{IsFirst, Tells}
 use Rattle.mg_tip.specs.TipPage.{places}
 use Rattle.mg_check_inventory.specs.ImagePages.{bit_checks, numbered}
-use Rattle.mg_check_inventory.proofs.TestLemmas.{first_handed, next_told, tells_same}
+use Rattle.mg_check_inventory.specs.TestLaws.{first_handed, next_told, tells_same}
 use Rattle.mg_check_inventory.proofs.TipLemmas.{undrawn_tells}
 use Rattle.mg_check_inventory.proofs.tips.check_content.Goals as goal
 

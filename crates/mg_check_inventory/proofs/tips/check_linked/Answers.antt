@@ -4,7 +4,7 @@ use Rattle.mg_base.specs.Image.{page_at}
 use Rattle.mg_findings.specs.Findings.{Tells}
 use Rattle.mg_check_inventory.specs.ImagePages.{link_checks, numbered}
 use Rattle.mg_check_inventory.specs.TransactionRung.{IsThereFinding}
-use Rattle.mg_check_inventory.proofs.TestLemmas.{first_handed, next_told, tells_same}
+use Rattle.mg_check_inventory.specs.TestLaws.{first_handed, next_told, tells_same}
 use Rattle.mg_check_inventory.proofs.tips.check_linked.Goals as goal
 
 pub returns-in_err-check_link-clause-found : goal.returns-in_err-check_link-clause-found

@@ -4,7 +4,7 @@ use Rattle.mg_findings.specs.Findings.{Tells}
 use Rattle.mg_tip.specs.TipPage.{tip_checks}
 use Rattle.mg_check_inventory.specs.ImagePages.{numbered}
 use Rattle.mg_check_inventory.specs.TransactionRung.{IsContentFinding}
-use Rattle.mg_check_inventory.proofs.TestLemmas.{first_handed, next_told}
+use Rattle.mg_check_inventory.specs.TestLaws.{first_handed, next_told}
 use Rattle.mg_check_inventory.proofs.TipLemmas.{tip_tells}
 use Rattle.mg_check_inventory.proofs.tips.check_page.Goals as goal
 

@@ -1,7 +1,7 @@
 use Rattle.std.proofs.Common.{length}
 use Rattle.mg_base.specs.Image.{page_at}
 use Rattle.mg_check_inventory.specs.TransactionRung.{IsPageFinding}
-use Rattle.mg_check_inventory.proofs.TipLemmas.{absent_found, there_found}
+use Rattle.mg_check_inventory.specs.TestLaws.{absent_found, there_found}
 use Rattle.mg_check_inventory.proofs.tips.check_there.Goals as goal
 
 pub returns-in-None-clause-found : goal.returns-in-None-clause-found

@@ -4,7 +4,7 @@ use Rattle.mg_base.specs.Image.{page_at}
 use Rattle.mg_findings.specs.Findings.{Tells}
 use Rattle.mg_check_inventory.specs.ImagePages.{bit_checks, numbered}
 use Rattle.mg_check_inventory.specs.TransactionRung.{IsTipsFinding}
-use Rattle.mg_check_inventory.proofs.TestLemmas.{some_told, tells_same}
+use Rattle.mg_check_inventory.specs.TestLaws.{some_told, tells_same}
 use Rattle.mg_check_inventory.proofs.transactions.transaction_findings.Goals as goal
 
 pub returns-in_err-note-clause-cause : goal.returns-in_err-note-clause-cause

@@ -1,14 +1,14 @@
--- What tests in a row tell of, and which tests pass.
-use Rattle.std.specs.Prelude.{◌≡◌, ◌↔◌, Bool, true, false, List, [], ◌∷◌, ◌++◌, Result, Ok, Err, IsErr, IsErrAnd}
-use Rattle.std.proofs.Common.{refl, sym, ap, inl, inr, arith, subst}
+-- Laws of tests in a row: what they tell of, and which pass.
+use Rattle.std.specs.Prelude.{◌≡◌, ◌↔◌, ◌<◌, ◌≤◌, ℕ, Bool, true, false, List, [], ◌∷◌, ◌++◌, Result, Ok, Err, IsErr, IsErrAnd, OnOk}
+use Rattle.std.proofs.Common.{refl, sym, ap, ◌∙◌, inl, inr, arith, subst}
 use Rattle.mg_base.specs.Checks.{Check, PassesAll, verdict}
-use Rattle.mg_base.specs.CheckLaws.{passes_from_verdict, verdict_from_passes}
+use Rattle.mg_base.specs.CheckLaws.{passes_from_verdict, verdict-append_err, verdict-append_ok, verdict_from_passes}
 use Rattle.mg_base.specs.declared.damage.Damaged.{Damaged}
 use Rattle.mg_base.specs.declared.numbers.PageNo.{PageNo}
 use Rattle.mg_findings.specs.declared.finding.Finding.{Finding}
 use Rattle.mg_findings.specs.Findings.{HasNone, OfFirst, Tells, damage_finding}
 use Rattle.mg_findings.specs.RungLaws.{none_from_passed, passed_from_none}
-use Rattle.mg_check_inventory.specs.ImagePages.{bit_number}
+use Rattle.mg_check_inventory.specs.ImagePages.{bit_number, numbered, presence_checks}
 
 -- where a test tells of what is found first, that is all
 pub first_found : (P Q : Finding → Type 0) (test : Result (Unit {0}) Damaged) (damage : Damaged)
@@ -98,3 +98,42 @@ pub next_told : (P Q : Finding → Type 0) (test : Result (Unit {0}) Damaged) (R
     → test ≡ Ok tt → ((f : Finding) → Tells test f ↔ P f) → ((f : Finding) → R f ↔ Q f)
     → (f : Finding) → R f ↔ OfFirst P Q f
 next_told P Q test R is same next = next_found P Q R (none_where_passed P test is same) next
+
+-- tests in a row, of which the first names a damage,
+pub append_handed : (n : ℕ) (b here : List ℕ) (checks : List ℕ → List Check) (others : List Check)
+    (test result : Result (Unit {0}) Damaged) (damage : Damaged) → b ≡ here
+    → test ≡ verdict (numbered n) (checks b) → test ≡ Err damage → result ≡ Err damage
+    → result ≡ verdict (numbered n) (checks here ++ others)
+append_handed n b here checks others test result damage same is told handed =
+    handed ∙ sym (verdict-append_err (numbered n) (checks here) others damage
+    (ap (λ (p : List ℕ). verdict (numbered n) (checks p)) (sym same) ∙ (sym is ∙ told)))
+
+-- or none
+pub append_next : (n : ℕ) (b here : List ℕ) (checks : List ℕ → List Check) (others : List Check)
+    (test result : Result (Unit {0}) Damaged) → b ≡ here → test ≡ verdict (numbered n) (checks b)
+    → test ≡ Ok tt → result ≡ verdict (numbered n) others
+    → result ≡ verdict (numbered n) (checks here ++ others)
+append_next n b here checks others test result same is passed next =
+    next ∙ sym (verdict-append_ok (numbered n) (checks here) others
+    (ap (λ (p : List ℕ). verdict (numbered n) (checks p)) (sym same) ∙ (sym is ∙ passed)))
+
+-- a page that is absent
+pub absent_found : (Q : Finding → Type 0) (count n : ℕ) (test : Result (Unit {0}) Damaged)
+    → count ≤ n → test ≡ verdict (numbered n) (presence_checks count n) → OnOk test (n < count)
+    → (f : Finding)
+    → Tells test f ↔ OfFirst (Tells (verdict (numbered n) (presence_checks count n))) Q f
+absent_found Q count n (Ok _) past is there = absurd (omega (arith, past, there))
+absent_found Q count n (Err damage) past is there =
+    first_found (Tells (verdict (numbered n) (presence_checks count n))) Q (Err damage) damage refl
+    (tells_same (Err damage) (verdict (numbered n) (presence_checks count n)) is)
+
+-- and one that is there
+pub there_found : (Q : Finding → Type 0) (count n : ℕ) (test : Result (Unit {0}) Damaged)
+    → n < count → ((f : Finding) → Tells test f ↔ Q f) → (f : Finding)
+    → Tells test f ↔ OfFirst (Tells (verdict (numbered n) (presence_checks count n))) Q f
+there_found Q count n test inside tells = next_told
+    (Tells (verdict (numbered n) (presence_checks count n))) Q
+    (verdict (numbered n) (presence_checks count n)) (Tells test)
+    (verdict_from_passes (numbered n) (presence_checks count n) (omega (arith, inside), tt))
+    (tells_same (verdict (numbered n) (presence_checks count n))
+    (verdict (numbered n) (presence_checks count n)) refl) tells
