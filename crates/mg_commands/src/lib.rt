@@ -24,15 +24,13 @@
 //! is asked for. The words of another one are no command line of the program until it has it.
 //!
 //! Below: `mg_words`, for numbers that are spelled and the options of `run DB`. Above: `mg_program`.
-//! Not here: what a command does.
+//! Not here: what a command does; tests of single command lines (`mg_commands_tests`).
 #![tactic(auto)]
 
 mod command;
 mod deciding;
 mod program;
 mod switch;
-#[cfg(test)]
-mod tests;
 mod word;
 
 pub use command::{Care, Command, Options};

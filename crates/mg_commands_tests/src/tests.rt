@@ -1,6 +1,6 @@
 //! Command lines as a shell gives them.
 
-use crate::are_words;
+use mg_commands::are_words;
 use std::alloc::Global;
 use std::process::Abort;
 use std::test::Fail;
