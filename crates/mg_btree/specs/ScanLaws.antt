@@ -1,6 +1,6 @@
 -- Laws of the steps of a scan along the leaves.
 use Rattle.std.proofs.Common.{◌≡◌, ◌≢◌, ◌∙◌, ap, refl, sym, subst, ◌+◌, ℕ, suc, List, [], Option, Some, None, Result, Ok, Err, arith}
-use Rattle.std.specs.Prelude.{IsErrAnd}
+use Rattle.std.specs.Prelude.{IfSome, IsErrAnd}
 use Rattle.mg_base.specs.Disk.{Meaning}
 use Rattle.mg_base.specs.Fields.{u32_at}
 use Rattle.mg_base.specs.Image.{Image}
@@ -24,7 +24,7 @@ use Rattle.mg_btree.specs.declared.node.ReadNode.{ReadNode}
 use Rattle.mg_btree.specs.Reading.{IsNodeOn, IsReadNode, Reads, RefusesNode}
 use Rattle.mg_btree.specs.Searching.{IsShort}
 use Rattle.mg_btree.specs.SearchLaws.{short_ends, short_right, tree_page, tree_short, viewed_same}
-use Rattle.mg_btree.specs.Ranges.{GivesRange, IsInRange, LooksOn, ScansFrom, Steps, StepsOn, no_pages, right_by}
+use Rattle.mg_btree.specs.Ranges.{FoundOn, GivesRange, IsInRange, LooksOn, ScansFrom, Steps, StepsOn, no_pages, right_by}
 use Rattle.mg_btree.specs.Changing.{IsLeaf}
 use Rattle.mg_btree.specs.declared.range.Look.TheVariants.{Ends, GoesOn}
 use Rattle.mg_btree.specs.declared.range.Step.{Step}
@@ -277,3 +277,13 @@ range_gives m old a batch page low bound start steps result is keeps empty start
   where
     plain : viewed old image batch ≡ viewed old image no_pages
     plain = rw empty refl
+
+-- what a leaf gives of a range lies in it
+pub look_within : (low : List ℕ) (bound : Option Entry) (read : ReadNode) (passed : ℕ) (step : Step)
+    → LooksOn low bound read passed (Ends step) → IfSome step.found (IsInRange low bound)
+look_within low bound read passed step looks =
+    subst (λ (s : Step). IfSome s.found (IsInRange low bound)) (sym looks.1) (by looks.0 looks.2)
+  where
+    by : (found : Option Entry) → FoundOn low bound read found → IfSome found (IsInRange low bound)
+    by None on = tt
+    by (Some e) on = on.within

@@ -178,6 +178,7 @@ fn next_from<D: Disk>(
 
     ensures reads { Reads D.meaning store.old store.new result }
     ensures leaf { IfOk result (λ step. IsLeaf store.old.geometry.size step.walk.leaf) }
+    ensures within { IfOk result (λ step. IfSome step.found (IsInRange low.now (option_copied after.entry))) }
     ensures steps { (image : Image) (owner root : ℕ) (levels : List (List ℕ))
         → Tells D.meaning store.old.disk image
         → ScansFrom store.old.geometry.size (viewed store.old image batch.now) owner root levels
@@ -270,7 +271,7 @@ pub fn walk_from<D: Disk>(
 /// Goes on with a walk, to the least entry behind `after`, where that is the entry that it gave last.
 /// The leaf that the walk has is not read again: only where it has no such entry are its right
 /// neighbours read, up to the first one that has. The tree has not changed since the leaf was read.
-/// Nothing is changed.
+/// Nothing is changed. On each file what is found comes behind `after`: so a walk ends.
 ///
 /// # Errors
 ///
@@ -287,6 +288,7 @@ pub fn walk_on<D: Disk>(
 
     ensures reads { Reads D.meaning store.old store.new result }
     ensures leaf { IfOk result (λ step. IsLeaf store.old.geometry.size step.walk.leaf) }
+    ensures within { IfOk result (λ step. IfSome step.found (IsInRange low.now (option_copied after.entry))) }
     ensures steps { (image : Image) (owner root : ℕ) (levels : List (List ℕ))
         → Tells D.meaning store.old.disk image
         → ScansFrom store.old.geometry.size (viewed store.old image no_pages) owner root levels

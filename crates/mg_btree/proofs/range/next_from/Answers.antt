@@ -1,10 +1,12 @@
 use Rattle.std.proofs.Common.{rules}
+use Rattle.std.specs.Prelude.{IfSome}
+use Rattle.mg_btree.specs.Ranges.{IsInRange}
 use Rattle.std.specs.Option.{option_copied}
 use Rattle.mg_btree.specs.declared.node.ReadNode.{ReadNode}
 use Rattle.mg_btree.specs.declared.range.Step.{Step}
 use Rattle.mg_btree.specs.Changing.{IsLeaf}
 use Rattle.mg_btree.specs.ReadingLaws.{ok_of_err}
-use Rattle.mg_btree.specs.ScanLaws.{look_ends, look_leaf, look_next, look_refused, look_wants, reads_err, scan_damaged, scan_ends, scan_fine, scan_memory, scan_reads, scan_starts}
+use Rattle.mg_btree.specs.ScanLaws.{look_ends, look_leaf, look_next, look_refused, look_wants, look_within, reads_err, scan_damaged, scan_ends, scan_fine, scan_memory, scan_reads, scan_starts}
 use Rattle.mg_btree.proofs.range.next_from.Goals as goal
 
 pub loop-passed-init : goal.loop-passed-init
@@ -79,3 +81,18 @@ returns-clause-steps g c = λ image owner root levels tells scan. absurd (scan_e
     c.args.batch.now c.args.start c.loop-passed.leaf c.args.low.now (option_copied c.args.after)
     c.loop-passed.passed c.requires.online c.loop-passed.invariant
     (search rules) image owner root levels tells scan)
+
+pub returns-in_err-look-clause-within : goal.returns-in_err-look-clause-within
+returns-in_err-look-clause-within g c = ok_of_err (λ (step : Step). IfSome step.found (IsInRange c.args.low.now
+    (option_copied c.args.after))) _ c.from_residual.result c.from_residual.ensures.1
+
+pub returns-in-Ends-clause-within : goal.returns-in-Ends-clause-within
+returns-in-Ends-clause-within g c = look_within c.args.low.now (option_copied c.args.after) c.loop-passed.leaf
+    c.loop-passed.passed c.in-Ends.step (rw c.in-Ends.is at c.in_ok-look.ensures)
+
+pub returns-in_err-leaf-in-GoesOn-clause-within : goal.returns-in_err-leaf-in-GoesOn-clause-within
+returns-in_err-leaf-in-GoesOn-clause-within g c = ok_of_err (λ (step : Step). IfSome step.found (IsInRange c.args.low.now
+    (option_copied c.args.after))) _ c.from_residual-in_err-leaf-in-GoesOn.result c.from_residual-in_err-leaf-in-GoesOn.ensures.1
+
+pub returns-clause-within : goal.returns-clause-within
+returns-clause-within g c = tt

@@ -1,0 +1,4 @@
+pub mod Along
+pub mod AlongLaws
+pub mod Enough
+pub mod Records
