@@ -50,6 +50,11 @@ pub record HasCommittedAt (f : Facts) (r : Reading) (p x : RecId) : Type 0 where
   pub of : table_in f p ≡ Some table
   pub committed : IsCommittedAt f x (r p)
 
+-- A version is dropped on pages: the one at x leads on where it led, and its cell at y is freed.
+pub record DropsPages (in_primary : Bool) (pool mid changed : Pages) (x y : RecId) (v w : Version) : Type 0 where
+  pub put : RelinksPage in_primary pool mid x.page.0 x v w.back
+  pub frees : FreesPage in_primary mid changed y w
+
 -- a version is dropped right behind a committed one of a record, changed by the cache in a batch of its own: every
 -- overlay is kept, and the history is as it was
 abbrev pub DropKeeps : Form → (D L : Type 0) → Meaning D → Type 0
@@ -95,7 +100,7 @@ module _ (form : Form) (none : HasNoSequences form) (no_primary : form.in_primar
   abbrev freed : Changed
   freed = drops.leads.freed
 
-  abbrev put_view : Pages
+  abbrev pub put_view : Pages
   put_view = viewed first i put
 
   abbrev freed_view : Pages
@@ -116,7 +121,7 @@ module _ (form : Form) (none : HasNoSequences form) (no_primary : form.in_primar
 
   -- ---- the record
 
-  next : (chosen : ℕ → Bool) (layout : Layout) (r : Reading)
+  pub next : (chosen : ℕ → Bool) (layout : Layout) (r : Reading)
       → IsSoundBy form size (left_state chosen state) pool layout r → IsNext (cells_of pool) x y w (r p)
   next chosen layout r sound =
       let found = finds chosen layout r sound in
@@ -229,6 +234,12 @@ module _ (form : Form) (none : HasNoSequences form) (no_primary : form.in_primar
         behind_it = λ q is. subst (λ (z : RecId). Stands (before w.back (behind x (r p))) z)
             (sym (place_is q y is)) (next_before (cells_of pool) x y w (r p) after_it);
       }
+
+  pub drop_pages : DropsPages form.in_primary pool put_view (shown last.dirty j) x y v w
+  drop_pages = record {
+    put = relinks;
+    frees = subst (λ (pages : Pages). FreesPage form.in_primary put_view pages y w) (sym final_is) frees;
+  }
 
   pub drop_row : KeptIn form size o h state asked session last j
   drop_row = skip_every form none size o h state (cache_over first i) (cache_over last j) put_view it.gone

@@ -22,6 +22,7 @@ use Rattle.mg_image.specs.StepLaws.{same_place}
 use Rattle.mg_image.specs.Tables.{Has, Layout, stands_of, table_at}
 use Rattle.mg_image.specs.declared.entry.Entry.{Entry}
 use Rattle.mg_image_overlays.specs.BackEvery.{dead_out_every}
+use Rattle.mg_image_overlays.specs.BackPart.{TakesOutPages}
 use Rattle.mg_image_overlays.specs.DataPages.{ChangesData}
 use Rattle.mg_image_overlays.specs.FreePart.{FreesPage}
 use Rattle.mg_image_overlays.specs.KeptImages.{IsKept, keeping}
@@ -99,7 +100,7 @@ module _ (form : Form) (none : HasNoSequences form) (no_primary : form.in_primar
   abbrev freed : Changed
   freed = takes.taken.freed
 
-  abbrev turned_view : Pages
+  abbrev pub turned_view : Pages
   turned_view = viewed first i turned
 
   abbrev freed_view : Pages
@@ -219,11 +220,21 @@ module _ (form : Form) (none : HasNoSequences form) (no_primary : form.in_primar
           let five : byte (pool k) 0 ≡ 5 = ap (λ (q : ℕ). byte (pool q) 0) same ∙ rec_cells.kind in
           omega (arith, four, five)
 
-  found : (chosen : ℕ → Bool) (layout : Layout) (r : Reading)
+  pub found : (chosen : ℕ → Bool) (layout : Layout) (r : Reading)
       → IsSoundBy form size (left_state chosen state) pool layout r
       → FindsNewest (facts_by (left_state chosen state) pool layout) r rec table x takes.was
   found chosen layout r sound = newest_found form size (left_state chosen state) pool layout r sound rec table
       (placed chosen layout r sound) takes.newest takes.its.head.slot takes.was takes.its.meets.cell
+
+  -- what becomes of the pages
+  pub taken_pages : TakesOutPages form.in_primary pool turned_view (cache_over last j).pool rec x takes.was
+      takes.newest
+  taken_pages = record {
+    slot_page = slot_page;
+    slot = takes.its.head.slot;
+    turn = turn;
+    frees = subst (λ (p : Pages). FreesPage form.in_primary turned_view p x takes.was) (sym final_is) frees;
+  }
 
   -- ---- a dead one
 
@@ -231,13 +242,7 @@ module _ (form : Form) (none : HasNoSequences form) (no_primary : form.in_primar
       → KeptIn form size o h state asked session last j
   dead_row one dead = dead_out_every form one none size o h state (cache_over first i) (cache_over last j) turned_view
       it.gone contents orders (needs_in asked session first) (needs_in asked session last) rec x table takes.was
-      takes.newest it.changes dead it.left
-      (record {
-        slot_page = slot_page;
-        slot = takes.its.head.slot;
-        turn = turn;
-        frees = subst (λ (p : Pages). FreesPage form.in_primary turned_view p x takes.was) (sym final_is) frees;
-      }) has_slot
+      takes.newest it.changes dead it.left taken_pages has_slot
       (record { freed = before_it; pointers = walked takes.was.back takes.taken.slot_reached })
       found every
 

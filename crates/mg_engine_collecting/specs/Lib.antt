@@ -1,2 +1,11 @@
+pub mod CoreStays
+pub mod DropReads
+pub mod LeftVersions
+pub mod PlaceNamed
+pub mod PlaceStays
+pub mod PlaceTells
 pub mod Remains
+pub mod RunStays
 pub mod StepKeeps
+pub mod StepSays
+pub mod StepStays

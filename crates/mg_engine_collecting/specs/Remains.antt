@@ -60,7 +60,7 @@ module _ (covered : CoveredMayGo) (gone : ErasedMayGo) (o : Opening) (h : Entrie
   of e = generation (writer e) (row_given e)
 
   -- whoever works and saw the older one saw the newer one
-  saw_newer : (newer older : ℕ) → is_committed (state newer) ≡ true → needed live newer older ≡ false → (t : ℕ)
+  pub saw_newer : (newer older : ℕ) → is_committed (state newer) ≡ true → needed live newer older ≡ false → (t : ℕ)
       → is_active (state t) ≡ true → (told o h).saw t older ≡ true → (told o h).saw t newer ≡ true
   saw_newer newer older committed none t active saw =
       let is : state t ≡ Active = active_is (state t) active in
@@ -162,7 +162,7 @@ module _ (covered : CoveredMayGo) (gone : ErasedMayGo) (o : Opening) (h : Entrie
       by false alive = rw alive given
 
   -- all bases see it: so whoever works saw it
-  seen_by_all : (u : ℕ) → is_committed (state u) ≡ true → all_see live u ≡ true → IsSeenByAll o h u
+  pub seen_by_all : (u : ℕ) → is_committed (state u) ≡ true → all_see live u ≡ true → IsSeenByAll o h u
   seen_by_all u committed all = record {
     committed = committed_is (state u) committed;
     saw = λ t active.

@@ -7,7 +7,7 @@ use Rattle.mg_base.specs.declared.numbers.TxNo.{TxNo}
 use Rattle.mg_base.specs.declared.transaction.TxState.{TxState}
 use Rattle.mg_base.specs.declared.transaction.TxState.TheVariants.{Active, Limbo, Dead, Committed}
 use Rattle.mg_chain.specs.Views.{is_dead}
-use Rattle.mg_collect_ties.specs.DropTies.{drop_keeps}
+use Rattle.mg_collect_ties.specs.DropTies.{HasCommittedAt, drop_keeps}
 use Rattle.mg_collect_ties.specs.TakeTies.{dead_keeps, erase_keeps}
 use Rattle.mg_image.specs.Form.{Form}
 use Rattle.mg_image.specs.ReadingLaws.{RowsAreOne}
@@ -37,7 +37,7 @@ use Rattle.mg_version.specs.declared.cell.Cell.TheVariants as cells
 use Rattle.mg_version.specs.declared.cell.Link.{Link}
 use Rattle.mg_version.specs.declared.cell.Version.{Version}
 use Rattle.mg_collecting.specs.LinkedLaws.{chain_linked}
-use Rattle.mg_collecting.specs.Steps.{CollectStep, drops_unneeded, takes_dead, takes_erased}
+use Rattle.mg_collecting.specs.Steps.{CollectStep, DropsUnneeded, drops_unneeded, takes_dead, takes_erased}
 
 -- A step of a collection of a record, which is one of a table whoever is chosen, keeps every overlay.
 abbrev pub StepKeeps : Form → (D : Type 0) → Meaning D → Type 0
@@ -51,25 +51,25 @@ StepKeeps form D m = (before after : Pool D FireLinks) (i j : Image) (asked : As
     → KeptIn form before.geometry.size o h state asked session before i
     → KeptIn form before.geometry.size o h state asked session after j
 
-dead_is : (s : TxState) → is_dead s ≡ true → s ≡ Dead
+pub dead_is : (s : TxState) → is_dead s ≡ true → s ≡ Dead
 dead_is Active is = absurd cc
 dead_is Limbo is = absurd cc
 dead_is Dead is = refl
 dead_is Committed is = absurd cc
 
-committed_is : (s : TxState) → is_committed s ≡ true → s ≡ Committed
+pub committed_is : (s : TxState) → is_committed s ≡ true → s ≡ Committed
 committed_is Active is = absurd cc
 committed_is Limbo is = absurd cc
 committed_is Dead is = absurd cc
 committed_is Committed is = refl
 
-both_of : (a b : Bool) → (a && b) ≡ true → (a ≡ true) × (b ≡ true)
+pub both_of : (a b : Bool) → (a && b) ≡ true → (a ≡ true) × (b ≡ true)
 both_of true true is = (refl, refl)
 both_of true false is = absurd cc
 both_of false b is = absurd cc
 
 -- who is committed is so whoever is chosen
-still_committed : (b : Bool) (s : TxState) → s ≡ Committed → left_by b s ≡ Committed
+pub still_committed : (b : Bool) (s : TxState) → s ≡ Committed → left_by b s ≡ Committed
 still_committed b s is = ap (left_by b) is ∙ still b
   where
     still : (c : Bool) → left_by c Committed ≡ Committed
@@ -97,7 +97,7 @@ module _ (form : Form) (one : RowsAreOne form.coding) (none : HasNoSequences for
     → IsSoundBy form before.geometry.size (left_state chosen state) (shown before.dirty i) layout r
     → table_at (stands_of layout) rec.page.0 ≡ Some table)
     (every : KeptIn form before.geometry.size o h state asked session before i) where
-  changes_of : (fills : Image → Changed → Type 0) (own : ChangesOwn m before after fills)
+  abbrev pub changes_of : (fills : Image → Changed → Type 0) (own : ChangesOwn m before after fills)
       → ChangesFresh m before after i j own.batch
   changes_of fills own = record {
     ready = own.ready;
@@ -108,17 +108,14 @@ module _ (form : Form) (one : RowsAreOne form.coding) (none : HasNoSequences for
     held = later.held;
   }
 
-  by_step : CollectStep m state live rec before after
-      → KeptIn form before.geometry.size o h state asked session after j
-  by_step (takes_dead own) =
-      let takes = own.filled i tells in
-      dead_keeps form one none no_primary D FireLinks m before after i j own.batch asked session o h state rec table
-      (changes_of _ own) takes.takes (dead_is (state takes.takes.was.tx.0) takes.dead) placed every
-  by_step (drops_unneeded newer gone own) =
+  -- whoever is chosen, the record has the version that stays, a committed one
+  pub finds_kept : (newer gone : Link) (own : ChangesOwn m before after
+      (λ image batch. DropsUnneeded before image state live rec newer gone batch)) (chosen : ℕ → Bool)
+      (layout : Layout) (r : Reading)
+      → IsSoundBy form before.geometry.size (left_state chosen state) (shown before.dirty i) layout r
+      → HasCommittedAt (facts_by (left_state chosen state) (shown before.dirty i) layout) r rec newer.rec
+  finds_kept newer gone own chosen layout r sound =
       let drops = own.filled i tells in
-      drop_keeps form none no_primary D FireLinks m before after i j own.batch asked session o h state rec newer gone
-      (changes_of _ own) drops.drops
-      (λ chosen layout r sound.
       let reads = sound.records.reads rec table (placed chosen layout r sound) in
       let linked = chain_linked (cells_of (shown before.dirty i))
       (newest_of rec (cells_of (shown before.dirty i) rec)) (r rec) reads in record {
@@ -130,7 +127,17 @@ module _ (form : Form) (one : RowsAreOne form.coding) (none : HasNoSequences for
             ∙ still_committed (chosen newer.tx.0) (state newer.tx.0) (committed_is (state newer.tx.0) drops.kept))
             (newest_of rec (cells_of (shown before.dirty i) rec)) (r rec) reads
             (drops.its (r rec) (record { slot = linked.0; linked = linked.1 }));
-      }) every
+      }
+
+  by_step : CollectStep m state live rec before after
+      → KeptIn form before.geometry.size o h state asked session after j
+  by_step (takes_dead own) =
+      let takes = own.filled i tells in
+      dead_keeps form one none no_primary D FireLinks m before after i j own.batch asked session o h state rec table
+      (changes_of _ own) takes.takes (dead_is (state takes.takes.was.tx.0) takes.dead) placed every
+  by_step (drops_unneeded newer gone own) =
+      drop_keeps form none no_primary D FireLinks m before after i j own.batch asked session o h state rec newer gone
+      (changes_of _ own) (own.filled i tells).drops (finds_kept newer gone own) every
   by_step (takes_erased own) =
       let takes = own.filled i tells in
       let one_ = both_of takes.takes.was.deleted

@@ -1,12 +1,20 @@
 //! A collection leaves the history as it was. The functions do nothing: their contracts are the laws.
 
+ghost use Rattle.mg_engine_collecting.specs.PlaceStays.{CollectionsAreNobodys};
+ghost use Rattle.mg_engine_collecting.specs.PlaceTells.{CollectionsTell};
 ghost use Rattle.mg_engine_collecting.specs.Remains.{RemainsStand};
 ghost use Rattle.mg_engine_collecting.specs.StepKeeps.{StepKeeps};
 ghost use Rattle.mg_image.specs.Form.{packed_form};
 
 use mg_base::Disk;
+use mg_engine_changes::writes_keep_plain;
+use mg_engine_steps::{batches_last, lists_go_on, page_writes_go_on, tips_stay};
 use mg_generations::garbage_may_go;
+use mg_heap::tables_of_layouts_are_walked;
 use mg_image::one_reading;
+use mg_image_overlays::sound_images_stand_one_way;
+use mg_model::histories_go_on;
+use mg_space::FireLinks;
 
 /// What remains of a record's versions stands for the same history.
 pub fn collections_stand()
@@ -21,3 +29,24 @@ pub fn steps_keep<D: Disk>()
 {
     one_reading();
 }
+
+/// A record that is collected at a place is nobody's event, made or refused.
+pub fn collections_are_nobodys<D: Disk, P>()
+    ensures { CollectionsAreNobodys D P D.meaning }
+{
+    one_reading();
+    sound_images_stand_one_way();
+    tips_stay();
+    lists_go_on::<D, FireLinks>();
+    writes_keep_plain();
+    garbage_may_go();
+    histories_go_on();
+    tables_of_layouts_are_walked();
+    batches_last::<D, FireLinks>();
+    page_writes_go_on::<D, FireLinks>();
+}
+
+/// It tells each fault of the disk.
+pub fn collections_tell_faults<D: Disk>()
+    ensures { CollectionsTell D D.meaning }
+{}

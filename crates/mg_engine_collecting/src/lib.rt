@@ -1,17 +1,26 @@
 //! What a collection means to an engine, as laws: the history is as it was.
 //!
 //! Owns: that what remains of a record's versions stands for the same history of its key, whose bases are those of the
-//! engine's memory (`RemainsStand`), so views, the database and obstacles are told as before; and that each step of a
-//! collection keeps every overlay, whoever is chosen (`StepKeeps`).
+//! engine's memory (`RemainsStand`), so views, the database and obstacles are told as before; that each step of a
+//! collection keeps every overlay, whoever is chosen (`StepKeeps`); and that the collection of a record at a place is
+//! nobody's event (`CollectionsAreNobodys`), and tells each fault of the disk (`CollectionsTell`).
+//!
+//! The last is made so. `DropReads` has what is read of a record once a version is dropped; `LeftVersions`, that records go
+//! on to have the versions of a history where one has fewer that say the same (`SaysTheSame`); `StepSays`, that those of
+//! each step do; `StepStays`, that after a step the pages show the history, the cache lasts with it, whoever works walks
+//! on, and a crash leaves what it left; `RunStays`, that the steps of one record add up; `CoreStays` and `PlaceStays`, the
+//! same of an engine's core, wherever the collection ends. `PlaceNamed` has why the record's table is one that a committed
+//! row of the catalog names: a version of a committed transaction stands in it.
 //!
 //! All stands in `specs/`. There is no program here: each function does nothing, and its contract is the law.
 //!
 //! Invariant: none, it keeps no state.
-//! Below: `mg_collecting`, for the steps and what remains; `mg_generations`, for chains with gaps; `mg_collect_ties`, for
-//! the batches. Above: nobody yet; the engine, once it collects.
-//! Not here: that the steps of one record add up to an engine that stands for the history, and walks of others.
+//! Below: `mg_collecting` and `mg_core_collecting`, for the steps, what remains, and the call; `mg_generations`, for chains
+//! with gaps; `mg_collect_ties`, for the batches; `mg_engine_steps` and `mg_engine_changes`, for what an engine stands for.
+//! Above: nobody yet; the engine, once it collects.
+//! Not here: that no page is taken (`mg_collecting_room`), and that no damage is met over a sound image.
 #![tactic(auto)]
 
 mod laws;
 
-pub use laws::{collections_stand, steps_keep};
+pub use laws::{collections_are_nobodys, collections_stand, collections_tell_faults, steps_keep};
