@@ -1,19 +1,19 @@
 -- Rows of a catalog with whole tables: some rows of a lawful catalog are a lawful one where each table is there with all
--- its columns or not at all, and so it is in a catalog as a history has it, without page numbers.
-use Rattle.std.proofs.Common.{◌≡◌, ◌⊎◌, ◌<◌, ◌++◌, inl, inr, refl, sym, ap, ◌∙◌, subst, length, ℕ, Bool, true, false, List, [], ◌∷◌, Option, None, Some, cond}
+-- its columns and indexes or not at all, and so it is in a catalog as a history has it, without page numbers.
+use Rattle.std.proofs.Common.{◌≡◌, ◌<◌, ◌++◌, inl, inr, refl, sym, ap, ◌∙◌, subst, ℕ, Bool, true, false, List, Option, None, Some, cond}
 use Rattle.std.specs.Prelude.{IsSome, is_some}
 use Rattle.std.proofs.lemmas.Bool.{false≢true}
 use Rattle.mg_value.specs.declared.value.Value.{Value}
 use Rattle.mg_value.specs.declared.value.Value.TheVariants.{Null}
 use Rattle.mg_model.specs.declared.change.Change.{Change}
-use Rattle.mg_model.specs.declared.table.Index.{Index}
-use Rattle.mg_model.specs.Catalog.{CatalogRows, catalog_name, column_key, index_key, said_a, said_b, said_c, said_d, table_key, told_cells, told_if_there}
-use Rattle.mg_model.specs.CatalogRules.{AreIndexes, IsCatalog, IsCatalogRow, IsColumnRow, IsKeyColumn, IsTableRow, catalog_row}
+use Rattle.mg_model.specs.Catalog.{CatalogRows, catalog_name, column_key, index_key, said_a, said_b, said_c, said_d, said_name, table_key, told_cells, told_if_there}
+use Rattle.mg_model.specs.CatalogRules.{IsCatalog, IsCatalogRow, IsColumnRow, IsIndexRow, IsKeyColumn, IsTableRow, catalog_row}
 use Rattle.mg_model.specs.Changes.{Cells, has_change, row_at}
 use Rattle.mg_model.specs.Openings.{IsToldCatalog}
 use Rattle.mg_model.specs.RowLaws.{row_at-append}
-use Rattle.mg_catalog.specs.LawfulLaws.{column_lawful, table_lawful}
+use Rattle.mg_catalog.specs.LawfulLaws.{column_lawful, index_lawful, table_lawful}
 use Rattle.mg_catalog.specs.TableLaws.{some_row}
+use Rattle.mg_engine_steps.specs.WholeIndexes.{HasIndexRows, indexes_whole, name_told, part_indexes, stored_row}
 
 -- a row that is there can be given
 pub row_there : (x : Option Cells) → IsSome x → (row : Cells) × (x ≡ Some row)
@@ -28,23 +28,14 @@ module _ (all part : CatalogRows) (lawful : IsCatalog all)
     → IsSome (part (table_key table)))
     (columns : (name : List ℕ) (row : Cells) → part (table_key name) ≡ Some row → (place : ℕ)
     → place < said_b row → IsSome (part (column_key name place)))
-    (no_index : (name : List ℕ) (row : Cells) → all (index_key name) ≡ Some row → ⊥) where
+    (owners : (name : List ℕ) (row : Cells) → part (index_key name) ≡ Some row
+    → IsSome (part (table_key (said_name row))))
+    (indexes : (name : List ℕ) (row : Cells) → part (table_key name) ≡ Some row → HasIndexRows all part name) where
   one_row : (key : Value) (a b : Cells) → part key ≡ Some a → all key ≡ Some b → a ≡ b
   one_row key a b here also = some_row a b (sym (within key a here) ∙ also)
 
   key_within : (name : List ℕ) (place : ℕ) → IsKeyColumn part name place → IsKeyColumn all name place
   key_within name place (row, is, says) = (row, within (column_key name place) row is, says)
-
-  none_beside : (name : List ℕ) (others : List Index) → AreIndexes all name others → others ≡ []
-  none_beside name [] are = refl
-  none_beside name (i ∷ is) are = absurd (no_index i.name are.each.0.row are.each.0.there)
-
-  no_indexes : (name : List ℕ) → AreIndexes part name []
-  no_indexes name = record {
-    each = tt;
-    whole = λ other row is of. absurd (no_index other row (within (index_key other) row is));
-    ascending = tt;
-  }
 
   table_part : (name : List ℕ) (row : Cells) → part (table_key name) ≡ Some row → IsTableRow all name row
       → IsTableRow part name row
@@ -59,9 +50,9 @@ module _ (all part : CatalogRows) (lawful : IsCatalog all)
     pointer = its.pointer;
     root = its.root;
     indexes = (
-      [],
-      no_indexes name,
-      ap length (sym (none_beside name its.indexes.0 its.indexes.1)) ∙ its.indexes.2,
+      its.indexes.0,
+      part_indexes part all within name (indexes name row here) its.indexes.0 its.indexes.1,
+      its.indexes.2,
     );
   }
     where
@@ -97,6 +88,24 @@ module _ (all part : CatalogRows) (lawful : IsCatalog all)
       found : (t : Cells) × (part (table_key table) ≡ Some t)
       found = row_there (part (table_key table)) (tables table place (ap is_some here))
 
+  index_part : (name : List ℕ) (row : Cells) → part (index_key name) ≡ Some row → IsIndexRow all name row
+      → IsIndexRow part name row
+  index_part name row here its = record {
+    named = its.named;
+    spelled = its.spelled;
+    root = its.root;
+    rooted = its.rooted;
+    of_table = (
+      found.0,
+      found.1,
+      subst (λ (c : Cells). said_b row < said_b c)
+          (sym (one_row (table_key (said_name row)) found.0 its.of_table.0 found.1 its.of_table.1)) its.of_table.2,
+    );
+  }
+    where
+      found : (t : Cells) × (part (table_key (said_name row)) ≡ Some t)
+      found = row_there (part (table_key (said_name row))) (owners name row here)
+
   pub part_lawful : IsCatalog part
   part_lawful key row here = at (lawful key row (within key row here))
     where
@@ -108,7 +117,7 @@ module _ (all part : CatalogRows) (lawful : IsCatalog all)
         keyed,
         column_part table place row (ap part (sym keyed) ∙ here) its,
       ))
-      at (inr (inr (name, keyed, its))) = absurd (no_index name row (ap all (sym keyed) ∙ within key row here))
+      at (inr (inr (name, keyed, its))) = inr (inr (name, keyed, index_part name row (ap part (sym keyed) ∙ here) its))
 
 -- ---- a catalog as a history has it
 
@@ -167,6 +176,21 @@ module _ (rows : CatalogRows) (is : IsToldCatalog rows) where
       column = its.columns place (subst (λ (n : ℕ). place < n)
           (ap said_b (sym same) ∙ count_told is.stored name table.0 its) below)
 
+  -- and an index its table
+  pub told_owner : (name : List ℕ) (row : Cells) → rows (index_key name) ≡ Some row
+      → IsSome (rows (table_key (said_name row)))
+  told_owner name row here = ap is_some (is.told (table_key (said_name row)) ∙ ap told_if_there
+      (ap (λ (n : List ℕ). is.stored (table_key n)) (sym called) ∙ its.of_table.1))
+    where
+      found : (other : Cells) × (is.stored (index_key name) ≡ Some other) × (told_cells other ≡ row)
+      found = stored_row rows is (index_key name) row here
+
+      its : IsIndexRow is.stored name found.0
+      its = index_lawful is.stored is.lawful name found.0 found.1
+
+      called : said_name found.0 ≡ said_name row
+      called = sym (name_told is.stored name found.0 its) ∙ ap said_name found.2
+
 -- ---- rows of one's own over a base
 
 -- One's own rows are new to the database. They are laid over a base, which may be an older state of the database: where
@@ -176,7 +200,9 @@ module _ (its base whole : List Change) (base_is : IsToldCatalog (row_at base ca
     (whole_is : IsToldCatalog (row_at whole catalog_name))
     (with_is : IsToldCatalog (row_at (its ++ whole) catalog_name))
     (new : (key : Value) → has_change its catalog_name key ≡ true
-    → IsSome (row_at its catalog_name key) × (row_at whole catalog_name key ≡ None)) where
+    → IsSome (row_at its catalog_name key) × (row_at whole catalog_name key ≡ None))
+    (older : (key : Value) (row : Cells) → row_at base catalog_name key ≡ Some row
+    → row_at whole catalog_name key ≡ Some row) where
   over_rest : (key : Value) (b : Bool) → has_change its catalog_name key ≡ b → (rest : List Change)
       → row_at (its ++ rest) catalog_name key
       ≡ cond b (row_at its catalog_name key) (row_at rest catalog_name key)
@@ -247,3 +273,93 @@ module _ (its base whole : List Change) (base_is : IsToldCatalog (row_at base ca
               let table = told_table (row_at whole catalog_name) whole_is name place
               (sym (ap is_some (over_rest (column_key name place) false none whole)) ∙ found) in
               absurd (not_new (table_key name) has (ap is_some table.1))
+
+  -- a row of the base is not one's own, and is seen as it is
+  its_not : (key : Value) → IsSome (row_at whole catalog_name key) → has_change its catalog_name key ≡ false
+  its_not key some = at (has_change its catalog_name key) refl
+    where
+      at : (b : Bool) → has_change its catalog_name key ≡ b → has_change its catalog_name key ≡ false
+      at false none = none
+      at true has = absurd (not_new key has some)
+
+  kept_over : (key : Value) (row : Cells) → row_at whole catalog_name key ≡ Some row
+      → (rest : List Change) → row_at (its ++ rest) catalog_name key ≡ row_at rest catalog_name key
+  kept_over key row is rest = over_rest key false (its_not key (ap is_some is)) rest
+
+  whole_over : (key : Value) (row : Cells) → row_at whole catalog_name key ≡ Some row
+      → row_at (its ++ whole) catalog_name key ≡ Some row
+  whole_over key row is = kept_over key row is whole ∙ is
+
+  base_over : (key : Value) (row : Cells) → row_at base catalog_name key ≡ Some row
+      → row_at (its ++ base) catalog_name key ≡ Some row
+  base_over key row is = kept_over key row (older key row is) base ∙ is
+
+  -- one's own row is the same over whatever
+  own_over : (key : Value) (row : Cells) → has_change its catalog_name key ≡ true → (rest more : List Change)
+      → row_at (its ++ rest) catalog_name key ≡ Some row → row_at (its ++ more) catalog_name key ≡ Some row
+  own_over key row has rest more is = over_rest key true has more ∙ (sym (over_rest key true has rest) ∙ is)
+
+  -- ---- indexes are whole
+
+  -- a table of the database has no index of one's own
+  none_added : (table : List ℕ) (row : Cells) → row_at whole catalog_name (table_key table) ≡ Some row
+      → (name : List ℕ) (index : Cells) → row_at (its ++ whole) catalog_name (index_key name) ≡ Some index
+      → said_name index ≡ table → has_change its catalog_name (index_key name) ≡ false
+  none_added table row here name index is of_table = its_not (index_key name) (ap is_some
+      (indexes_whole (row_at whole catalog_name) (row_at (its ++ whole) catalog_name) whole_is with_is table row here
+      (whole_over (table_key table) row here) (λ n r there called. whole_over (index_key n) r there) name index is
+      of_table))
+
+  -- who sees an index sees its table
+  pub seen_owner : (name : List ℕ) (row : Cells) → row_at (its ++ base) catalog_name (index_key name) ≡ Some row
+      → IsSome (row_at (its ++ base) catalog_name (table_key (said_name row)))
+  seen_owner name row is = at (has_change its catalog_name (index_key name)) refl
+    where
+      at : (b : Bool) → has_change its catalog_name (index_key name) ≡ b
+          → IsSome (row_at (its ++ base) catalog_name (table_key (said_name row)))
+      at false none = base_seen (table_key (said_name row)) (told_owner (row_at base catalog_name) base_is name row
+          (sym (over_rest (index_key name) false none base) ∙ is))
+      at true has = by (has_change its catalog_name (table_key (said_name row))) refl
+          (row_there (row_at (its ++ whole) catalog_name (table_key (said_name row)))
+          (told_owner (row_at (its ++ whole) catalog_name) with_is name row with_index))
+        where
+          with_index : row_at (its ++ whole) catalog_name (index_key name) ≡ Some row
+          with_index = own_over (index_key name) row has base whole is
+
+          by : (b : Bool) → has_change its catalog_name (table_key (said_name row)) ≡ b
+              → (t : Cells) × (row_at (its ++ whole) catalog_name (table_key (said_name row)) ≡ Some t)
+              → IsSome (row_at (its ++ base) catalog_name (table_key (said_name row)))
+          by true also found = its_seen (table_key (said_name row)) also base
+          by false none (t, there) = absurd (false≢true (sym (none_added (said_name row) t
+              (sym (over_rest (table_key (said_name row)) false none whole) ∙ there) name row with_index refl) ∙ has))
+
+  -- an index of a table of one's own is one's own
+  own_index : (table : List ℕ) → has_change its catalog_name (table_key table) ≡ true → (name : List ℕ) (row : Cells)
+      → row_at (its ++ whole) catalog_name (index_key name) ≡ Some row → said_name row ≡ table
+      → row_at (its ++ base) catalog_name (index_key name) ≡ Some row
+  own_index table has name row there of_table = at (has_change its catalog_name (index_key name)) refl
+    where
+      at : (b : Bool) → has_change its catalog_name (index_key name) ≡ b
+          → row_at (its ++ base) catalog_name (index_key name) ≡ Some row
+      at true also = own_over (index_key name) row also whole base there
+      at false none = absurd (not_new (table_key table) has (subst (λ (n : List ℕ).
+          IsSome (row_at whole catalog_name (table_key n))) of_table (told_owner (row_at whole catalog_name) whole_is
+          name row (sym (over_rest (index_key name) false none whole) ∙ there))))
+
+  -- and who sees a table sees the rows of its indexes, as another catalog has them in which all rows are that are seen
+  pub seen_indexes : (all : CatalogRows) → IsToldCatalog all
+      → ((key : Value) (row : Cells) → row_at (its ++ base) catalog_name key ≡ Some row → all key ≡ Some row)
+      → (table : List ℕ) (row : Cells) → row_at (its ++ base) catalog_name (table_key table) ≡ Some row
+      → HasIndexRows all (row_at (its ++ base) catalog_name) table
+  seen_indexes all all_is seen_all table row here name index is of_table =
+      at (has_change its catalog_name (table_key table)) refl
+    where
+      at : (b : Bool) → has_change its catalog_name (table_key table) ≡ b
+          → row_at (its ++ base) catalog_name (index_key name) ≡ Some index
+      at false none = base_over (index_key name) index (indexes_whole (row_at base catalog_name) all base_is all_is table
+          row (sym (over_rest (table_key table) false none base) ∙ here) (seen_all (table_key table) row here)
+          (λ n r there called. seen_all (index_key n) r (base_over (index_key n) r there)) name index is of_table)
+      at true has = own_index table has name index (indexes_whole (row_at (its ++ whole) catalog_name) all with_is all_is
+          table row (own_over (table_key table) row has base whole here) (seen_all (table_key table) row here)
+          (λ n r there called. seen_all (index_key n) r (own_index table has n r there called)) name index is of_table)
+          of_table

@@ -1,5 +1,5 @@
 -- Rows of a dead transaction go.
-use Rattle.std.proofs.Common.{◌≡◌, ◌≢◌, ◌⊎◌, ◌∙◌, ◌∷◌, inl, inr, ℕ, List, [], Option, None, Some, Bool, true, ap, refl, subst, sym}
+use Rattle.std.proofs.Common.{◌≡◌, ◌⊎◌, ◌∙◌, ◌∷◌, inl, inr, ℕ, List, [], Option, None, Some, true, ap, refl, subst, sym}
 use Rattle.mg_base.specs.declared.numbers.RecId.{RecId}
 use Rattle.mg_base.specs.declared.transaction.TxState.{TxState}
 use Rattle.mg_base.specs.declared.transaction.TxState.TheVariants.{Dead}
@@ -7,8 +7,7 @@ use Rattle.mg_engine_steps.specs.DeadRows.{DeadRowsGo}
 use Rattle.mg_engine_steps.specs.Outs.{GoesWhole}
 use Rattle.mg_engine_steps.specs.ShownEnd.{spoken_if, still_spoken}
 use Rattle.mg_engine_steps.specs.Standing.{FindsTables, ShowsHistory, Standing}
-use Rattle.mg_engine_steps.specs.Versions.{HaveVersions, IsRecordOf, SpeaksFor, SpeaksOrSilent}
-use Rattle.mg_generations.specs.Generations.{Generation}
+use Rattle.mg_engine_steps.specs.Versions.{SpeaksFor, SpeaksOrSilent}
 use Rattle.mg_generations.specs.Kept.{IsErasedForAll, StandFor}
 use Rattle.mg_image.specs.Form.{Form, Pages}
 use Rattle.mg_image.specs.Inventory.{next_of}

@@ -9,9 +9,9 @@ use Rattle.mg_model.specs.History.{Begins, Ends, Entries, Entry, Looks, effect_o
 use Rattle.mg_model.specs.Legal.{IsLegal, MayBegin}
 use Rattle.mg_model.specs.Machine.{mode_of}
 use Rattle.mg_records.specs.Reading.{shape_seen}
-use Rattle.mg_image.specs.Catalog.{StaysAmong}
 use Rattle.mg_image.specs.Form.{Pages, packed_form}
 use Rattle.mg_image.specs.Tables.{Layout}
+use Rattle.mg_image_overlays.specs.TableOwners.{IsOneOf}
 use Rattle.mg_model.specs.Openings.{everyone}
 use Rattle.mg_overlays.specs.Overlays.{left_state}
 use Rattle.mg_lasting.specs.Entries.{is_idle}
@@ -27,8 +27,8 @@ use Rattle.mg_engine_steps.specs.Known.{KnowsPages}
 pub record TablesFor (o : Opening) (h : Entries) (layout : Layout) (t : ℕ) : Type 0 where
   pub table : List ℕ → Option Table
   pub seen_as : (name : List ℕ) → IsSeenAs name (shape_seen o h t name) (table name)
-  pub stays : (name : List ℕ) (given : Table) → table name ≡ Some given
-      → StaysAmong (map (λ stand. stand.table) layout.tables) given
+  pub stands : (name : List ℕ) (given : Table) → table name ≡ Some given
+      → IsOneOf (map (λ stand. stand.table) layout.tables) given
 
 -- there are such for one that begins
 abbrev pub BeginHasTables : Type 0

@@ -22,7 +22,6 @@ use Rattle.mg_model.specs.Machine.{base, changes_in, database, deeds_by, is_of, 
 use Rattle.mg_model.specs.NumberLaws.{undrawn_has_no_deeds, undrawn_is_dead}
 use Rattle.mg_model.specs.Openings.{everyone}
 use Rattle.mg_records.specs.Reading.{shape_named, shape_seen}
-use Rattle.mg_image.specs.Catalog.{StaysAmong}
 use Rattle.mg_image.specs.Form.{Pages, packed_form}
 use Rattle.mg_image.specs.Inventory.{next_of}
 use Rattle.mg_image.specs.Records.{Reading}
@@ -30,6 +29,7 @@ use Rattle.mg_image.specs.Sound.{IsSoundBy}
 use Rattle.mg_image.specs.Tables.{Layout, stands_of}
 use Rattle.mg_image_overlays.specs.Begins.{Raises, begin_sound}
 use Rattle.mg_image_overlays.specs.OneLayout.{StandsOneWay}
+use Rattle.mg_image_overlays.specs.TableOwners.{IsOneOf}
 use Rattle.mg_overlays.specs.Overlays.{left_by, left_state}
 use Rattle.mg_lasting.specs.Entries.{idle_own, is_idle}
 use Rattle.mg_engine_steps.specs.Following.{FollowsEntry, KeepsTables, OthersKeepTables}
@@ -53,18 +53,18 @@ module _ (o : Opening) (h : Entries) (layout : Layout) (t : ℕ)
   given_as name None is = tt
   given_as name (Some shape) is = ((stand name shape is).named, (stand name shape is).shaped)
 
-  given_stays : (name : List ℕ) (x : Option Shape) (is : shape_seen o h t name ≡ x) (table : Table)
-      → given_for name x is ≡ Some table → StaysAmong (map (λ stand. stand.table) layout.tables) table
-  given_stays name None is table some = absurd cc
-  given_stays name (Some shape) is table some =
+  given_stands : (name : List ℕ) (x : Option Shape) (is : shape_seen o h t name ≡ x) (table : Table)
+      → given_for name x is ≡ Some table → IsOneOf (map (λ stand. stand.table) layout.tables) table
+  given_stands name None is table some = absurd cc
+  given_stands name (Some shape) is table some =
       let same : (stand name shape is).table ≡ table = cc in
-      subst (StaysAmong (map (λ stand. stand.table) layout.tables)) same (stand name shape is).stays
+      subst (IsOneOf (map (λ stand. stand.table) layout.tables)) same (stand name shape is).stands
 
   tables_for : TablesFor o h layout t
   tables_for = record {
     table = λ name. given_for name (shape_seen o h t name) refl;
     seen_as = λ name. given_as name (shape_seen o h t name) refl;
-    stays = λ name table some. given_stays name (shape_seen o h t name) refl table some;
+    stands = λ name table some. given_stands name (shape_seen o h t name) refl table some;
   }
 
 -- ---- new bases
@@ -175,7 +175,7 @@ begin_finds one_way others size o h e t mode s new pages later knows opening leg
         → FindsTables o (e ∷ h) new knows.shows.layout u
     its u on at_work = subst (FindsTables o (e ∷ h) new knows.shows.layout)
         (sym (only_its e (Begins t mode) t u is refl on)) (record {
-          seen = λ name table some. given.stays name table (sym (sees name) ∙ some);
+          seen = λ name table some. given.stands name table (sym (sees name) ∙ some);
           changed = λ name key has. absurd (false≢true (sym (ap (λ (cs : List Change). has_change cs name key)
               (nothing_done o h e t mode opening legal is)) ∙ has));
         })
@@ -191,7 +191,7 @@ look_finds one_way others size o h e t s new pages knows is follows given sees n
 
     finds : s.state t ≡ Active → FindsTables o (e ∷ h) new knows.shows.layout t
     finds active = record {
-      seen = λ name table some. given.stays name table (sym (sees name) ∙ some);
+      seen = λ name table some. given.stands name table (sym (sees name) ∙ some);
       changed = λ name key has. subst (λ (n : List ℕ → ℕ). HasFirstPage (stands_of knows.shows.layout) name
           (n name)) (sym number) ((knows.shows.tables t active).changed name key
           (ap (λ (cs : List Change). has_change cs name key) (sym (same_own o h e t is)) ∙ has));

@@ -1,33 +1,30 @@
--- The table that is found under a name stands on the pages.
-use Rattle.std.proofs.Common.{◌≡◌, inl, inr, refl, sym, ap, ◌∙◌, subst, ℕ, Bool, true, false, ◌&&◌, ◌==◌, ◌||◌, List, [], ◌∷◌, Option, None, Some, cond}
-use Rattle.std.specs.Prelude.{if◌then◌else◌, map}
+-- The rows of the catalog that an active transaction sees are those of the catalog once all are committed.
+use Rattle.std.proofs.Common.{◌≡◌, inl, refl, sym, ap, ◌∙◌, subst, ℕ, Bool, true, false, ◌&&◌, ◌==◌, ◌||◌, List, [], ◌∷◌, None, Some, cond}
+use Rattle.std.specs.Prelude.{if◌then◌else◌}
 use Rattle.std.specs.Str.{bytes_eq}
 use Rattle.std.proofs.lemmas.Bool.{eqb-true, false≢true, ne_eqb}
 use Rattle.mg_base.specs.declared.numbers.RecId.{RecId}
 use Rattle.mg_base.specs.declared.numbers.TxNo.{TxNo}
 use Rattle.mg_base.specs.declared.transaction.TxState.{TxState}
 use Rattle.mg_base.specs.declared.transaction.TxState.TheVariants.{Active, Committed, Dead, Limbo}
-use Rattle.mg_value.specs.declared.shape.Shape.{Shape}
 use Rattle.mg_value.specs.declared.value.Value.{Value}
 use Rattle.mg_model.specs.declared.opening.Opening.{Opening}
 use Rattle.mg_model.specs.declared.table.Table.{Table}
 use Rattle.mg_model.specs.Answers.{is_committed, told}
-use Rattle.mg_model.specs.Catalog.{catalog_name, said_a, table_key, told_cells}
-use Rattle.mg_model.specs.CatalogRules.{EachTable, IsTable}
+use Rattle.mg_model.specs.Catalog.{catalog_name, told_cells}
 use Rattle.mg_model.specs.Changes.{row_at}
 use Rattle.mg_model.specs.History.{Entries}
 use Rattle.mg_model.specs.Legal.{IsLegal, MayBegin}
 use Rattle.mg_model.specs.Machine.{state_of, view}
 use Rattle.mg_model.specs.Openings.{everyone}
-use Rattle.mg_catalog.specs.ByKey.{by_key, row_key}
-use Rattle.mg_records.specs.Reading.{shape_seen}
+use Rattle.mg_catalog.specs.ByKey.{row_key}
 use Rattle.mg_generations.specs.Generations.{sees as sees_told}
 use Rattle.mg_generations.specs.Kept.{StandFor}
 use Rattle.mg_chain.specs.Chains.{takes_version}
 use Rattle.mg_heap.specs.TableLaws.{table_once}
 use Rattle.mg_snap.specs.Live.{sees}
 use Rattle.mg_image.specs.declared.entry.Entry.{Entry}
-use Rattle.mg_image.specs.Catalog.{StaysAmong, committed_with}
+use Rattle.mg_image.specs.Catalog.{committed_with}
 use Rattle.mg_image.specs.Form.{Pages, Row}
 use Rattle.mg_image.specs.Held.{told_row}
 use Rattle.mg_image.specs.RecordRules.{Facts, table_in}
@@ -39,23 +36,19 @@ use Rattle.mg_image_overlays.specs.OneTable.{stands_in}
 use Rattle.mg_seek.specs.Histories.{told_all, told_versions}
 use Rattle.mg_seek.specs.Readings.{RowsOfReadings}
 use Rattle.mg_seek.specs.TableRecords.{AreTableRecords, IsAmong, records_in}
-use Rattle.mg_seek.specs.TableRows.{IsTableSeen}
 use Rattle.mg_seek.specs.Views.{IsRowSeen}
-use Rattle.mg_engine_steps.specs.Standing.{IsSeenAs, Standing}
+use Rattle.mg_engine_steps.specs.Standing.{Standing}
 use Rattle.mg_engine_steps.specs.Known.{KnowsPages, base_is_told, catalog_is_shown, facts_shown, speaker_of}
 use Rattle.mg_engine_steps.specs.KeyAnswers.{has_speaker, read_at}
 use Rattle.mg_engine_steps.specs.AnswersLaws.{NothingAtKeys, RowsAtKeys}
 use Rattle.mg_engine_steps.specs.Listed.{page_listed}
 use Rattle.mg_engine_steps.specs.TableAnswers.{shown_living, shows_speaks}
 use Rattle.mg_engine_steps.specs.TablePages.{data_there, table_there}
-use Rattle.mg_engine_steps.specs.Tables.{TablesAreTold}
 use Rattle.mg_grown_catalogs.specs.Grown.{CatalogGrows}
 use Rattle.mg_engine_steps.specs.Seen.{NewestIsSeen}
-use Rattle.mg_engine_steps.specs.Found.{FoundTablesStand}
-use Rattle.mg_engine_steps.specs.SeenRows.{IsRowOf, named_is, row_found}
 
 -- a version that is taken first shows its row
-first_shown : (counts : ℕ → Bool) (e : Entry) (es : List Entry) (row : Row) → counts (writer e) ≡ true
+pub first_shown : (counts : ℕ → Bool) (e : Entry) (es : List Entry) (row : Row) → counts (writer e) ≡ true
     → shown counts (e ∷ es) ≡ Some row → (other : ℕ → Bool) → other (writer e) ≡ true
     → shown other (e ∷ es) ≡ Some row
 first_shown counts e es row takes is other also =
@@ -64,10 +57,6 @@ first_shown counts e es row takes is other also =
   where
     at : (d : Bool) → cond d None (Some e.row) ≡ Some row → cond d None (Some e.row) ≡ Some row
     at d same = same
-
--- what two tables with one name are whose rows are one
-same_page : (a b : Table) → a.pointer.0 ≡ b.pointer.0 → a.pointer ≡ b.pointer
-same_page a b same = ap (λ (n : ℕ). record { 0 = n }) same
 
 module _ (rows_law : RowsOfReadings) (rows_at : RowsAtKeys) (nothing : NothingAtKeys) (newest : NewestIsSeen)
     (size : ℕ) (o : Opening) (h : Entries) (s : Standing) (pages : Pages) (knows : KnowsPages size o h s pages)
@@ -208,58 +197,3 @@ module _ (rows_law : RowsOfReadings) (rows_at : RowsAtKeys) (nothing : NothingAt
   of_catalog records of rec among = (data_there size (left_state everyone s.state) pages knows.shows.layout r
       knows.shows.sound cat cat_stands rec.page.0).1 (page_listed pages cat_stands.stand.data_pages rec
       (subst (λ (xs : List RecId). IsAmong xs rec) (records_are records of) among))
-
-  -- ---- the table of a name
-
-  module _ (tables_told : TablesAreTold) (name : List ℕ) (table : Table)
-      (seen : IsTableSeen s.state s.live t pages cat name (Some table)) where
-    abbrev its : (table.name ≡ name) × IsTable (by_key seen.rows) table
-    its = named_is (by_key seen.rows) seen.names.0 name table seen.names.1.each seen.names.2
-
-    its_row : knows.shows.sound.names.all.rows (table_key table.name) ≡ Some its.1.row
-    its_row = by (row_found s.state s.live t pages cat seen.seen.records seen.rows (table_key table.name) its.1.row
-        seen.seen.seen its.1.there)
-      where
-        by : IsRowOf s.state s.live t pages cat seen.seen.records (table_key table.name) its.1.row
-            → knows.shows.sound.names.all.rows (table_key table.name) ≡ Some its.1.row
-        by it = subst (λ (k : Value). knows.shows.sound.names.all.rows k ≡ Some its.1.row) it.keyed
-            (seen_in_all it.rec its.1.row (of_catalog seen.seen.records seen.seen.of_table it.rec it.among) it.seen)
-
-    -- a table of the layout with the name has the page
-    one_stays : (given : Table) → given.name ≡ name → given.shape ≡ table.shape → (ts : List Table)
-        → EachTable (IsTable knows.shows.sound.names.all.rows) ts → StaysAmong ts given → StaysAmong ts table
-    one_stays given same shaped [] each stays = stays
-    one_stays given same shaped (x ∷ ts) each (inr more) = inr (one_stays given same shaped ts each.1 more)
-    one_stays given same shaped (x ∷ ts) each (inl is) =
-        let called : x.name ≡ table.name = is.name ∙ (same ∙ sym its.0) in
-        let both : Some each.0.row ≡ Some its.1.row = sym each.0.there
-        ∙ (ap (λ (n : List ℕ). knows.shows.sound.names.all.rows (table_key n)) called ∙ its_row) in
-        let one : each.0.row ≡ its.1.row = cc in
-        inl (record {
-          name = called;
-          shape = is.shape ∙ shaped;
-          pointer = same_page x table (each.0.pointer ∙ (ap said_a one ∙ sym its.1.pointer));
-        })
-
-    -- the table that memory has under the name is such a one
-    pub found_stays : StaysAmong (map (λ stand. stand.table) knows.shows.layout.tables) table
-    found_stays = by (shape_seen o h t.0 name)
-        (tables_told size o h s pages knows t name (Some table) opening legal active seen)
-        (s.table t.0 name) refl ((knows.memory.active t.0 active).table name)
-      where
-        by : (x : Option Shape) → IsSeenAs name x (Some table) → (given : Option Table)
-            → s.table t.0 name ≡ given → IsSeenAs name x given
-            → StaysAmong (map (λ stand. stand.table) knows.shows.layout.tables) table
-        by None is given remembered also = absurd is
-        by (Some shape) is None remembered also = absurd also
-        by (Some shape) is (Some given) remembered also = one_stays given also.0 (also.1 ∙ sym is.1)
-            (map (λ stand. stand.table) knows.shows.layout.tables) knows.shows.sound.names.all.are_tables.each
-            ((knows.shows.tables t.0 (knows.memory.state t.0 ∙ active)).seen name given remembered)
-
--- ---- the law
-
-pub found_tables_stand : RowsOfReadings → RowsAtKeys → NothingAtKeys → NewestIsSeen → TablesAreTold
-    → FoundTablesStand
-found_tables_stand rows_law rows_at nothing newest tables_told size o h s pages knows t name table opening legal
-    grows active seen = found_stays rows_law rows_at nothing newest size o h s pages knows t opening legal grows
-    active tables_told name table seen

@@ -1,5 +1,5 @@
 -- What the pages and the memory of an engine that stands for a history are to one who reads them.
-use Rattle.std.proofs.Common.{◌≡◌, inl, inr, refl, ap, ◌∙◌, ℕ, true, List, [], ◌∷◌, Option}
+use Rattle.std.proofs.Common.{◌≡◌, inl, inr, refl, ap, ◌∙◌, ℕ, true, List, Option}
 use Rattle.std.specs.Prelude.{map}
 use Rattle.std.proofs.Math.Path.{fun_ext}
 use Rattle.mg_base.specs.declared.numbers.RecId.{RecId}
@@ -13,12 +13,12 @@ use Rattle.mg_model.specs.History.{Entries}
 use Rattle.mg_model.specs.Machine.{state_of}
 use Rattle.mg_model.specs.Openings.{everyone}
 use Rattle.mg_chain.specs.Views.{BaseIsTold}
-use Rattle.mg_image.specs.Catalog.{IsSameTable, StaysAmong}
+use Rattle.mg_image.specs.Catalog.{IsSameTable}
 use Rattle.mg_image.specs.Form.{Pages, packed_coding, packed_form}
 use Rattle.mg_image.specs.RecordRules.{AreRecords, Facts}
 use Rattle.mg_image.specs.Records.{cells_of}
 use Rattle.mg_image.specs.Sound.{facts_by}
-use Rattle.mg_image.specs.Tables.{Layout, stands_of}
+use Rattle.mg_image.specs.Tables.{Layout}
 use Rattle.mg_image_overlays.specs.Fronts.{is_dead}
 use Rattle.mg_image_overlays.specs.TableOwners.{IsOneOf}
 use Rattle.mg_overlays.specs.Overlays.{left_by, left_state}
@@ -91,21 +91,14 @@ module _ (size : ℕ) (o : Opening) (h : Entries) (s : Standing) (pages : Pages)
 
 -- ---- tables
 
-among_shown : (layout : Layout) (tables : List Table) (table : Table)
-    → ((its : Table) → IsOneOf tables its
-    → IsOneOf (map (λ stand. stand.table) (stands_of layout)) its)
-    → StaysAmong tables table → IsShown layout table
-among_shown layout [] table in_it stays = absurd stays
-among_shown layout (t ∷ ts) table in_it (inl same) =
-    record { its = t; stands = stands_in layout t (in_it t (inl refl)); same = same }
-among_shown layout (t ∷ ts) table in_it (inr later) =
-    among_shown layout ts table (λ its is. in_it its (inr is)) later
-
 -- a table that a transaction sees is shown
 pub seen_is_shown : (layout : Layout) (table : Table)
-    → StaysAmong (map (λ stand. stand.table) layout.tables) table → IsShown layout table
-seen_is_shown layout table stays = among_shown layout (map (λ stand. stand.table) layout.tables) table
-    (λ its is. inr is) stays
+    → IsOneOf (map (λ stand. stand.table) layout.tables) table → IsShown layout table
+seen_is_shown layout table is = record {
+  its = table;
+  stands = stands_in layout table (inr is);
+  same = record { name = refl; shape = refl; pointer = refl };
+}
 
 -- and so is the catalog
 pub catalog_is_shown : (layout : Layout) → IsShown layout layout.catalog.table

@@ -1,18 +1,17 @@
 -- The rows of the catalog that an active transaction sees are lawful.
-use Rattle.std.proofs.Common.{◌≡◌, ◌⊎◌, ◌<◌, ◌++◌, ◌==◌, inl, inr, refl, sym, ap, ◌∙◌, subst, arith, length, get_or, ℕ, zero, suc, true, false, List, [], ◌∷◌, Option, None, Some}
-use Rattle.std.specs.Prelude.{IsSome, is_some, map}
+use Rattle.std.proofs.Common.{◌≡◌, ◌<◌, ◌++◌, ◌==◌, inl, inr, refl, sym, ap, ◌∙◌, subst, arith, length, get_or, ℕ, zero, suc, true, false, List, [], ◌∷◌, Option, None, Some}
+use Rattle.std.specs.Prelude.{IsSome, is_some}
 use Rattle.mg_base.specs.declared.numbers.RecId.{RecId}
 use Rattle.mg_base.specs.declared.numbers.TxNo.{TxNo}
 use Rattle.mg_base.specs.declared.transaction.TxState.{TxState}
 use Rattle.mg_base.specs.declared.transaction.TxState.TheVariants.{Active}
 use Rattle.mg_value.specs.declared.value.Value.{Value}
 use Rattle.mg_model.specs.declared.opening.Opening.{Opening}
-use Rattle.mg_model.specs.declared.table.Index.{Index}
 use Rattle.mg_model.specs.declared.table.Table.{Table}
 use Rattle.mg_model.specs.Answers.{is_open}
-use Rattle.mg_model.specs.Catalog.{CatalogRows, catalog_name, column_key, index_key, said_b, said_c, said_name, table_key, told_cells}
-use Rattle.mg_model.specs.CatalogRules.{EachTable, HasIndex, HasTableOf, IsCatalog, IsIndexRow, IsTable, primary_index}
-use Rattle.mg_model.specs.Changes.{has_change, row_at}
+use Rattle.mg_model.specs.Catalog.{CatalogRows, catalog_name, column_key, index_key, said_b, said_name, table_key, told_cells, told_if_there}
+use Rattle.mg_model.specs.CatalogRules.{IsCatalog}
+use Rattle.mg_model.specs.Changes.{Cells, has_change, row_at}
 use Rattle.mg_model.specs.History.{Entries}
 use Rattle.mg_model.specs.Legal.{IsLegal, MayBegin}
 use Rattle.mg_model.specs.Machine.{base, database, own, state_of, view}
@@ -29,14 +28,12 @@ use Rattle.mg_image.specs.declared.entry.Entry.{Entry}
 use Rattle.mg_image.specs.Form.{Pages, Row}
 use Rattle.mg_image.specs.RecordRules.{Facts, table_in}
 use Rattle.mg_image.specs.Records.{Chain, Reading, cells_of, key_of, record_key}
-use Rattle.mg_image.specs.Tables.{stands_of}
-use Rattle.mg_image_overlays.specs.TableOwners.{IsOneOf}
 use Rattle.mg_overlays.specs.Overlays.{left_state}
 use Rattle.mg_image_overlays.specs.Growing.{IsTableOf}
 use Rattle.mg_image_overlays.specs.OneTable.{stands_in}
-use Rattle.mg_seek.specs.Histories.{HasSpeaker, told_if}
+use Rattle.mg_seek.specs.Histories.{HasSpeaker}
 use Rattle.mg_seek.specs.Readings.{RowsOfReadings}
-use Rattle.mg_seek.specs.TableRecords.{IsAmong, records_in}
+use Rattle.mg_seek.specs.TableRecords.{IsAmong}
 use Rattle.mg_seek.specs.TableRows.{AreRowsSeen, AreSeen, with_row}
 use Rattle.mg_seek.specs.Views.{IsRowSeen}
 use Rattle.mg_engine_steps.specs.StandingLaws.{ChainsGoOn}
@@ -48,12 +45,13 @@ use Rattle.mg_engine_steps.specs.AnswersLaws.{NothingAtKeys, RowsAtKeys}
 use Rattle.mg_engine_steps.specs.Listed.{is_listed}
 use Rattle.mg_engine_steps.specs.TableAnswers.{shown_key}
 use Rattle.mg_engine_steps.specs.TablePages.{data_there}
-use Rattle.mg_grown_catalogs.specs.Grown.{CatalogGrows, OwnRowsAreNew}
-use Rattle.mg_engine_steps.specs.CatalogParts.{count_told, part_lawful, row_there, seen_column, seen_table}
+use Rattle.mg_grown_catalogs.specs.Grown.{BasesAreWithin, CatalogGrows, OwnRowsAreNew}
+use Rattle.mg_engine_steps.specs.CatalogParts.{count_told, part_lawful, row_there, seen_column, seen_indexes, seen_owner, seen_table}
 use Rattle.mg_engine_steps.specs.FoundLaws.{of_catalog, records_are, seen_in_all, seen_is_told}
-use Rattle.mg_engine_steps.specs.Lawful.{DatabasesAreLawful, HasNoIndexes, SeenRowsAreLawful}
+use Rattle.mg_engine_steps.specs.Lawful.{DatabasesAreLawful, SeenRowsAreLawful}
 use Rattle.mg_engine_steps.specs.NamedTables.{told_lawful}
 use Rattle.mg_engine_steps.specs.Seen.{NewestIsSeen}
+use Rattle.mg_engine_steps.specs.WholeIndexes.{HasIndexRows, name_told, told_of}
 use Rattle.mg_engine_steps.specs.SeenRows.{row_found}
 use Rattle.mg_engine_steps.specs.SeenTables.{tells_database, tells_with_own}
 
@@ -116,18 +114,6 @@ key_at [] at below = absurd (omega arith)
 key_at (first ∷ rows) zero below = inl refl
 key_at (first ∷ rows) (suc at) below = inr (key_at rows at (omega arith))
 
--- a table of some that have no index
-plain_of : (rows : CatalogRows) (ts : List Table) (name : List ℕ) → EachTable (IsTable rows) ts
-    → HasTableOf ts name → ((x : Table) → IsOneOf ts x → x.indexes ≡ [])
-    → (x : Table) × (x.name ≡ name) × (x.indexes ≡ []) × IsTable rows x
-plain_of rows [] name each has none = absurd has
-plain_of rows (x ∷ ts) name each (inl is) none = (x, is, none x (inl refl), each.0)
-plain_of rows (x ∷ ts) name each (inr more) none = plain_of rows ts name each.1 more (λ y is. none y (inr is))
-
-none_behind : (first others : List Index) (name : List ℕ) → [] ≡ first ++ others → HasIndex others name → ⊥
-none_behind [] others name none has = subst (λ (is : List Index). HasIndex is name) (sym none) has
-none_behind (i ∷ is) others name none has = absurd cc
-
 -- ---- the catalog of the database
 
 pub databases_are_lawful : ChainsShowDatabase → DatabasesAreLawful
@@ -138,11 +124,10 @@ databases_are_lawful shows size o h s pages knows =
 -- ---- what one sees of it
 
 module _ (rows_law : RowsOfReadings) (rows_at : RowsAtKeys) (nothing : NothingAtKeys) (newest : NewestIsSeen)
-    (shows : ChainsShowDatabase) (go_on : ChainsGoOn) (own_new : OwnRowsAreNew) (size : ℕ) (o : Opening)
-    (h : Entries) (s : Standing) (pages : Pages) (knows : KnowsPages size o h s pages) (t : TxNo)
+    (shows : ChainsShowDatabase) (go_on : ChainsGoOn) (own_new : OwnRowsAreNew) (older : BasesAreWithin) (size : ℕ)
+    (o : Opening) (h : Entries) (s : Standing) (pages : Pages) (knows : KnowsPages size o h s pages) (t : TxNo)
     (rows : List Row) (opening : MayBegin o) (legal : IsLegal o h) (grows : CatalogGrows o h)
     (active : state_of o h t.0 ≡ Active) (base_is : IsToldCatalog (row_at (base o h t.0) catalog_name))
-    (no_index : HasNoIndexes knows.shows.layout)
     (seen : AreRowsSeen s.state s.live t pages knows.shows.layout.catalog.table rows) where
   abbrev f : Facts
   f = facts_shown size o h s pages knows
@@ -174,7 +159,7 @@ module _ (rows_law : RowsOfReadings) (rows_at : RowsAtKeys) (nothing : NothingAt
   in_all rec row among is = seen_in_all rows_law rows_at nothing newest size o h s pages knows t opening legal grows
       active rec row (of_cat rec among) is
 
-  within : (key : Value) (row : Row) → by_key rows key ≡ Some row → all key ≡ Some row
+  pub within : (key : Value) (row : Row) → by_key rows key ≡ Some row → all key ≡ Some row
   within key row is =
       let it = row_found s.state s.live t pages cat seen.records rows key row seen.seen is in
       subst (λ (k : Value). all k ≡ Some row) it.keyed (in_all it.rec row it.among it.seen)
@@ -251,19 +236,6 @@ module _ (rows_law : RowsOfReadings) (rows_at : RowsAtKeys) (nothing : NothingAt
   lawful : IsCatalog all
   lawful = knows.shows.sound.names.all.are_tables.lawful
 
-  no_index_row : (name : List ℕ) (row : Row) → all (index_key name) ≡ Some row → ⊥
-  no_index_row name row is = by (plain_of all (map (λ stand. stand.table) knows.shows.layout.tables) (said_name row)
-      knows.shows.sound.names.all.are_tables.each
-      (knows.shows.sound.names.all.are_tables.whole (said_name row) its.of_table.0 its.of_table.1)
-      (λ x one. no_index x (stands_in knows.shows.layout x (inr one))))
-    where
-      its : IsIndexRow all name row
-      its = index_lawful all lawful name row is
-
-      by : (x : Table) × (x.name ≡ said_name row) × (x.indexes ≡ []) × IsTable all x → ⊥
-      by (x, called, none, table) = none_behind (primary_index x.name x.shape.key (said_c table.row)) table.others
-          name (sym none ∙ table.indexes) (table.are_others.whole name row is (sym called))
-
   data_is : IsToldCatalog (row_at (database o h) catalog_name)
   data_is = databases_are_lawful shows size o h s pages knows
 
@@ -275,25 +247,57 @@ module _ (rows_law : RowsOfReadings) (rows_at : RowsAtKeys) (nothing : NothingAt
       → IsSome (row_at (own o h t.0) catalog_name key) × (row_at (database o h) catalog_name key ≡ None)
   new_rows key has = own_new o h t.0 key opening legal grows (ap is_open active) has
 
+  base_within : (key : Value) (row : Cells) → row_at (base o h t.0) catalog_name key ≡ Some row
+      → row_at (database o h) catalog_name key ≡ Some row
+  base_within key row is = older o h t.0 key row opening legal grows is
+
   told_some : (key : Value) → IsSome (by_key rows key) → IsSome (row_at (view o h t.0) catalog_name key)
   told_some key some = let it = row_there (by_key rows key) some in ap is_some (told_there key it.0 it.1)
 
   tables_whole : (table : List ℕ) (place : ℕ) → IsSome (by_key rows (column_key table place))
       → IsSome (by_key rows (table_key table))
   tables_whole table place some = seen_there (table_key table)
-      (seen_table (own o h t.0) (base o h t.0) (database o h) base_is data_is with_is new_rows table place
+      (seen_table (own o h t.0) (base o h t.0) (database o h) base_is data_is with_is new_rows base_within table place
       (told_some (column_key table place) some))
 
   columns_whole : (name : List ℕ) (row : Row) → by_key rows (table_key name) ≡ Some row → (place : ℕ)
       → place < said_b row → IsSome (by_key rows (column_key name place))
   columns_whole name row here place below = seen_there (column_key name place)
-      (seen_column (own o h t.0) (base o h t.0) (database o h) base_is data_is with_is new_rows name
+      (seen_column (own o h t.0) (base o h t.0) (database o h) base_is data_is with_is new_rows base_within name
       (told_cells row) (told_there (table_key name) row here) place
       (subst (λ (n : ℕ). place < n) (sym (count_told all name row (table_lawful all lawful name row
       (within (table_key name) row here)))) below))
 
+  -- ---- indexes are whole
+
+  -- a row that the history tells it is one of the catalog, without its page numbers
+  told_all : (key : Value) (row : Cells) → row_at (view o h t.0) catalog_name key ≡ Some row
+      → told_if_there (all key) ≡ Some row
+  told_all key row is =
+      let found = row_there (by_key rows key) (seen_there key (ap is_some is)) in
+      ap told_if_there (within key found.0 found.1) ∙ (sym (told_there key found.0 found.1) ∙ is)
+
+  owners_whole : (name : List ℕ) (row : Cells) → by_key rows (index_key name) ≡ Some row
+      → IsSome (by_key rows (table_key (said_name row)))
+  owners_whole name row here = subst (λ (n : List ℕ). IsSome (by_key rows (table_key n)))
+      (name_told all name row (index_lawful all lawful name row (within (index_key name) row here)))
+      (seen_there (table_key (said_name (told_cells row))) (seen_owner (own o h t.0) (base o h t.0) (database o h) base_is
+      data_is with_is new_rows base_within name (told_cells row) (told_there (index_key name) row here)))
+
+  pub indexes_whole : (table : List ℕ) (row : Cells) → by_key rows (table_key table) ≡ Some row
+      → HasIndexRows all (by_key rows) table
+  indexes_whole table row here name index is of_table =
+      let found = row_there (by_key rows (index_key name)) (seen_there (index_key name) (ap is_some told_index)) in
+      found.1 ∙ (sym (within (index_key name) found.0 found.1) ∙ is)
+    where
+      told_index : row_at (view o h t.0) catalog_name (index_key name) ≡ Some (told_cells index)
+      told_index = seen_indexes (own o h t.0) (base o h t.0) (database o h) base_is data_is with_is new_rows base_within
+          (λ key. told_if_there (all key)) (told_of all lawful) told_all table (told_cells row)
+          (told_there (table_key table) row here) name (told_cells index) (ap told_if_there is)
+          (name_told all name index (index_lawful all lawful name index is) ∙ of_table)
+
   lawful_rows : IsCatalog (by_key rows)
-  lawful_rows = part_lawful all (by_key rows) lawful within tables_whole columns_whole no_index_row
+  lawful_rows = part_lawful all (by_key rows) lawful within tables_whole columns_whole owners_whole indexes_whole
 
   pub each_lawful : (at : ℕ) → at < length rows → IsLawfulAt rows at
   each_lawful at below = lawful_rows (row_key (get_or rows at [])) (get_or rows at []) (first.1 ∙ ap Some same)
@@ -312,8 +316,8 @@ module _ (rows_law : RowsOfReadings) (rows_at : RowsAtKeys) (nothing : NothingAt
 -- ---- the law
 
 pub seen_rows_are_lawful : RowsOfReadings → RowsAtKeys → NothingAtKeys → NewestIsSeen → ChainsShowDatabase
-    → ChainsGoOn → OwnRowsAreNew → SeenRowsAreLawful
-seen_rows_are_lawful rows_law rows_at nothing newest shows go_on own_new size o h s pages knows t rows opening legal
-    grows active base_is no_index seen =
-    each_lawful rows_law rows_at nothing newest shows go_on own_new size o h s pages knows t rows opening legal grows
-    active base_is no_index seen
+    → ChainsGoOn → OwnRowsAreNew → BasesAreWithin → SeenRowsAreLawful
+seen_rows_are_lawful rows_law rows_at nothing newest shows go_on own_new older size o h s pages knows t rows opening
+    legal grows active base_is seen =
+    each_lawful rows_law rows_at nothing newest shows go_on own_new older size o h s pages knows t rows opening legal
+    grows active base_is seen

@@ -9,7 +9,6 @@ use Rattle.mg_engine_steps.specs.Standing.{FindsTables, HasFirstPage, IsSeenAs, 
 use Rattle.mg_engine_steps.specs.Again.{AreTaken}
 use Rattle.mg_engine_steps.specs.OwnChains.{change_there, none_second}
 use Rattle.mg_grown_catalogs.specs.Grown.{BasesAreWithin, CatalogGrows, OwnRowsAreNew, SeenIsNotMade}
-use Rattle.mg_image.specs.Catalog.{StaysAmong}
 use Rattle.mg_image.specs.Form.{Form, Pages}
 use Rattle.mg_image.specs.Histories.{newest_at}
 use Rattle.mg_image.specs.Records.{Reading}
@@ -35,7 +34,8 @@ use Rattle.mg_records.specs.Reading.{shape_seen}
 use Rattle.mg_engine_steps.specs.ChangedTables.{ChangedAreThere, NoneOfGone}
 use Rattle.mg_engine_steps.specs.LeftShown.{TakesTables}
 use Rattle.mg_engine_steps.specs.Taken.{layout_left, stands_left}
-use Rattle.mg_engine_steps.specs.TakenNames.{others_named, stays_left, tables_of_left}
+use Rattle.mg_image_overlays.specs.TableOwners.{IsOneOf}
+use Rattle.mg_engine_steps.specs.TakenNames.{one_left, others_named, tables_of_left}
 
 -- ---- stands
 
@@ -161,10 +161,10 @@ module _ (form : Form) (size : ℕ) (o : Opening) (h : Entries) (e : Entry) (poi
   each_other = others_named before.names.all.rows before.names.all.are_tables.lawful (map (λ x. x.table) a.tables)
       before.names.all.are_tables.each
 
-  stays_there : (table : Table) → gone (table_key table.name) ≡ false → StaysAmong (map (λ x. x.table) a.tables) table
-      → StaysAmong (map (λ x. x.table) (layout_left gone a it.c).tables) table
-  stays_there table off stays = subst (λ (ts : List Table). StaysAmong ts table) (sym (tables_of_left gone a.tables))
-      (stays_left gone (map (λ x. x.table) a.tables) table off stays)
+  stays_there : (table : Table) → gone (table_key table.name) ≡ false → IsOneOf (map (λ x. x.table) a.tables) table
+      → IsOneOf (map (λ x. x.table) (layout_left gone a it.c).tables) table
+  stays_there table off stands = subst (λ (ts : List Table). IsOneOf ts table) (sym (tables_of_left gone a.tables))
+      (one_left gone (map (λ x. x.table) a.tables) table off stands)
 
   first_there : (name : List ℕ) (page : ℕ) → (name ≢ catalog_name → gone (table_key name) ≡ false)
       → HasFirstPage (stands_of a) name page → HasFirstPage (stands_of (layout_left gone a it.c)) name page

@@ -16,6 +16,7 @@ pub mod ChangeKnown
 pub mod ChangedTables
 pub mod ChangedTablesLaws
 pub mod Choices
+pub mod ChosenTables
 pub mod Claims
 pub mod CommitLaws
 pub mod Commits
@@ -37,6 +38,7 @@ pub mod FirstLaws
 pub mod Following
 pub mod Found
 pub mod FoundLaws
+pub mod FoundWhole
 pub mod Free
 pub mod GivenUp
 pub mod GoesOn
@@ -123,6 +125,7 @@ pub mod WalkPlaces
 pub mod Walking
 pub mod WalksLaws
 pub mod Whole
+pub mod WholeIndexes
 pub mod WholeLaws
 pub mod WriteKnown
 pub mod Writes

@@ -23,13 +23,13 @@ use Rattle.mg_records.specs.Reading.{shape_named as shape_told_by}
 use Rattle.mg_generations.specs.Generations.{Generation, shown_by}
 use Rattle.mg_generations.specs.Kept.{IsErasedForAll, StandFor}
 use Rattle.mg_image.specs.declared.entry.Entry.{Entry}
-use Rattle.mg_image.specs.Catalog.{CatalogNames, StaysAmong, committed_with}
+use Rattle.mg_image.specs.Catalog.{CatalogNames, IsSameTable, StaysAmong, committed_with}
 use Rattle.mg_image.specs.Form.{Pages, Row}
 use Rattle.mg_image.specs.Held.{Shows, told_row}
 use Rattle.mg_image.specs.RecordRules.{Facts, table_in}
 use Rattle.mg_image.specs.Records.{Reading, key_of, record_key, shown, writer}
 use Rattle.mg_image_overlays.specs.Fronts.{is_dead, living}
-use Rattle.mg_image_overlays.specs.TableOwners.{table_named}
+use Rattle.mg_image_overlays.specs.TableOwners.{IsOneOf, table_named}
 use Rattle.mg_image_openings.specs.Catalogs.{rows_once, shape_named}
 use Rattle.mg_image_openings.specs.Told.{shape_told}
 use Rattle.mg_overlays.specs.Overlays.{left_by}
@@ -43,12 +43,12 @@ use Rattle.mg_engine_steps.specs.TableAnswers.{shown_key, shown_living}
 
 -- ---- definitions
 
--- a table with this name and shape stays among some tables
+-- a table with this name and shape is one of some tables
 pub record HasTableWith (tables : List Table) (name : List ℕ) (shape : Shape) : Type 0 where
   pub table : Table
   pub named : table.name ≡ name
   pub shaped : table.shape ≡ shape
-  pub stays : StaysAmong tables table
+  pub stands : IsOneOf tables table
 
 -- changes have at each key of the catalog the newest version that is committed, or of one that is chosen among
 -- those that have not ended
@@ -66,6 +66,15 @@ NamedTablesStand = (size : ℕ) (o : Opening) (h : Entries) (s : Standing) (page
     (shape : Shape) → TellsCommitted size o h s pages knows chosen cs
     → shape_told_by (row_at cs catalog_name) name ≡ Some shape
     → HasTableWith (map (λ stand. stand.table) knows.shows.layout.tables) name shape
+
+-- ---- one of some tables
+
+-- one that stays among tables is one of them, but for its indexes
+pub one_among : (tables : List Table) (x : Table) → StaysAmong tables x
+    → (y : Table) × IsOneOf tables y × IsSameTable y x
+one_among [] x is = absurd is
+one_among (t ∷ ts) x (inl same) = (t, inl refl, same)
+one_among (t ∷ ts) x (inr more) = let (y, one, same) = one_among ts x more in (y, inr one, same)
 
 -- ---- what is shown, as it is told
 
@@ -172,7 +181,7 @@ module _ (size : ℕ) (o : Opening) (h : Entries) (s : Standing) (pages : Pages)
   told_is : (row : Row) → told_row cat row ≡ told_cells row
   told_is row = ap (λ (n : List ℕ). if bytes_eq n catalog_name then told_cells row else row) named
 
-  rows_told : (key : Value) → row_at cs catalog_name key ≡ told_if_there (stored.rows key)
+  pub rows_told : (key : Value) → row_at cs catalog_name key ≡ told_if_there (stored.rows key)
   rows_told key = ap (λ (n : List ℕ). row_at cs n key) (sym named) ∙ at (stored.rows key) refl
     where
       silent : stored.rows key ≡ None → (x : Option RecId) → spoken key ≡ x
@@ -267,12 +276,9 @@ module _ (size : ℕ) (o : Opening) (h : Entries) (s : Standing) (pages : Pages)
                   ∙ shape_named stored.rows stored.are_tables.lawful x is_table in
                   let both : Some x.shape ≡ Some shape = sym stored_shape ∙ (sym shapes ∙ in_rows) in
                   let same : x.shape ≡ shape = cc in
-                  record {
-                    table = x;
-                    named = is_named;
-                    shaped = same;
-                    stays = subst (λ (ts : List Table). StaysAmong ts x) all_tables stays;
-                  }
+                  let (y, one, alike) = one_among (map (λ stand. stand.table) knows.shows.layout.tables) x
+                  (subst (λ (ts : List Table). StaysAmong ts x) all_tables stays) in
+                  record { table = y; named = alike.name ∙ is_named; shaped = alike.shape ∙ same; stands = one }
 
 pub named_tables_stand : NamedTablesStand
 named_tables_stand size o h s pages knows chosen cs name shape told_rows named_ =

@@ -19,12 +19,12 @@ use Rattle.mg_waits.specs.Machine.{NotesLast}
 use Rattle.mg_waits.specs.Waits.{Edges}
 use Rattle.mg_undo.specs.Machine.{undo_of}
 use Rattle.mg_undo.specs.Undo.{State as Undo}
-use Rattle.mg_image.specs.Catalog.{StaysAmong}
 use Rattle.mg_image.specs.Form.{Form, Pages}
 use Rattle.mg_image.specs.Inventory.{next_of}
 use Rattle.mg_image.specs.Records.{Reading}
 use Rattle.mg_image.specs.Sound.{IsSoundBy, facts_by}
 use Rattle.mg_image.specs.Tables.{Layout, Stand, stands_of}
+use Rattle.mg_image_overlays.specs.TableOwners.{IsOneOf}
 use Rattle.mg_overlays.specs.Overlays.{left_state}
 use Rattle.mg_engine_steps.specs.Based.{AreBased}
 use Rattle.mg_engine_steps.specs.Versions.{HaveVersions}
@@ -89,11 +89,12 @@ HasFirstPage [] name page = ⊥
 HasFirstPage (stand ∷ stands) name page =
     ((stand.table.name ≡ name) × (stand.table.pointer.0 ≡ page)) ⊎ HasFirstPage stands name page
 
--- The tables that an active transaction sees or has changed are where it takes them to be.
+-- The tables that an active transaction sees are those of the layout, with all their indexes, and the tables that it
+-- has changed are where it takes them to be.
 pub record FindsTables (o : Opening) (h : Entries) (s : Standing) (layout : Layout) (t : ℕ) : Type 0
   where
     pub seen : (name : List ℕ) (table : Table) → s.table t name ≡ Some table
-        → StaysAmong (map (λ stand. stand.table) layout.tables) table
+        → IsOneOf (map (λ stand. stand.table) layout.tables) table
     pub changed : (name : List ℕ) (key : Value) → has_change (own o h t) name key ≡ true
         → HasFirstPage (stands_of layout) name (s.number t name)
 

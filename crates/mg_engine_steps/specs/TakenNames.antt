@@ -21,6 +21,7 @@ use Rattle.mg_image.specs.Records.{Reading, key_of, record_key, shown, writer}
 use Rattle.mg_image.specs.Sound.{IsSoundBy, facts_by}
 use Rattle.mg_image.specs.Tables.{Layout, Stand, has, stands_of, table_at}
 use Rattle.mg_image_overlays.specs.Begins.{Raises}
+use Rattle.mg_image_overlays.specs.TableOwners.{IsOneOf}
 use Rattle.mg_engine_steps.specs.Taken.{HasGone, IsLeft, TakesBack, layout_left, reading_left, stands_left}
 use Rattle.mg_engine_steps.specs.TakenRows.{each_left, row_stays, row_was, rows_left, tables_are_left, tables_left}
 
@@ -169,6 +170,23 @@ stays_left gone (t ∷ ts) u off (inr more) = at (gone (table_key t.name)) (stay
   where
     at : (b : Bool) → StaysAmong (tables_left gone ts) u
         → StaysAmong (if b then tables_left gone ts else t ∷ tables_left gone ts) u
+    at true there = there
+    at false there = inr there
+
+pub one_left : (gone : Value → Bool) (ts : List Table) (u : Table) → gone (table_key u.name) ≡ false → IsOneOf ts u
+    → IsOneOf (tables_left gone ts) u
+one_left gone [] u off is = absurd is
+one_left gone (t ∷ ts) u off (inl same) = at (gone (table_key t.name)) refl
+  where
+    at : (b : Bool) → gone (table_key t.name) ≡ b
+        → IsOneOf (if b then tables_left gone ts else t ∷ tables_left gone ts) u
+    at true is = let both : true ≡ false = sym is ∙ (ap (λ (x : Table). gone (table_key x.name)) same ∙ off) in
+        absurd cc
+    at false is = inl same
+one_left gone (t ∷ ts) u off (inr more) = at (gone (table_key t.name)) (one_left gone ts u off more)
+  where
+    at : (b : Bool) → IsOneOf (tables_left gone ts) u
+        → IsOneOf (if b then tables_left gone ts else t ∷ tables_left gone ts) u
     at true there = there
     at false there = inr there
 

@@ -23,7 +23,6 @@ use Rattle.mg_model.specs.Openings.{everyone}
 use Rattle.mg_model.specs.ReadLaws.{same_name_itself}
 use Rattle.mg_generations.specs.Generations.{Generation, generation, put, without_newest_by}
 use Rattle.mg_image.specs.declared.entry.Entry.{Entry}
-use Rattle.mg_image.specs.Catalog.{StaysAmong}
 use Rattle.mg_image.specs.Form.{Form, Pages}
 use Rattle.mg_image.specs.RecordRules.{Facts, table_in}
 use Rattle.mg_image.specs.Records.{Reading, record_key, writer}
@@ -43,6 +42,7 @@ use Rattle.mg_engine_steps.specs.Versions.{HaveVersions, told_version}
 use Rattle.mg_engine_steps.specs.Writing.{WritesKey, WritesRecord}
 use Rattle.mg_engine_steps.specs.WritingLaws.{erased_may_be_silent}
 use Rattle.mg_image_overlays.specs.OneTable.{table_at_stands}
+use Rattle.mg_image_overlays.specs.TableOwners.{IsOneOf}
 use Rattle.mg_engine_steps.specs.Writes.{StaysBehind, WritesShow, WritesStand, WritesVersion, made, pushed, replaced}
 
 -- ---- tables, where a layout has grown
@@ -67,7 +67,7 @@ grown_tables before after r grown = λ i. grown.catalog i ∷ grown.names i
 pub finds_on : (o : Opening) (h : Entries) (s : Standing) (before after : Layout) (r : Reading) (t : ℕ)
     → HasGrown before after r → FindsTables o h s before t → FindsTables o h s after t
 finds_on o h s before after r t grown finds = record {
-  seen = λ name table is. subst (λ (ts : List Table). StaysAmong ts table) (sym grown.names)
+  seen = λ name table is. subst (λ (ts : List Table). IsOneOf ts table) (sym grown.names)
       (finds.seen name table is);
   changed = λ name key has. first_on (stands_of before) (stands_of after) name (s.number t name)
       (grown_tables before after r grown) (finds.changed name key has);

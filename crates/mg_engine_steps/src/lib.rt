@@ -56,7 +56,8 @@
 //! - `tables`: under which names tables stand (`NamedTablesStand`), and that each active transaction finds its own after a
 //!   begin, a look, an idle entry and the commit of another.
 //! - `seen`, `found`: what a transaction sees of a catalog whose rows are only made stands newest, so the table that it
-//!   finds under a name stands on the pages (`FoundTablesStand`), however old its base is.
+//!   finds under a name stands on the pages, with all its indexes (`FoundTablesStand`), however old its base is; and
+//!   whoever comes to be committed, the tables are the same (`ChosenTablesStand`).
 //! - `lawful`: the rows of the catalog that a transaction sees are lawful (`SeenRowsAreLawful`), however old its base is.
 //! - `walks`: the walks of a transaction go on although others begin, end or write.
 //!
@@ -93,7 +94,7 @@ pub use batches::{rows_are_taken, rows_away_keep, taken_tables_are_there};
 pub use commits::{commits_fail, commits_go_on, lists_go_on, page_writes_go_on, tips_stay};
 pub use engines::engines_take_tables;
 pub use entries::{begins_go_on, draws_stay_sound, entries_go_on};
-pub use found::found_tables_stand;
+pub use found::{chosen_tables_stand, found_tables_stand};
 pub use fronts::tables_keep_pages;
 pub use histories::{changed_tables_are_there, left_tables_are_seen};
 pub use lawful::{databases_are_lawful, seen_rows_are_lawful};
