@@ -12,7 +12,7 @@ use Rattle.mg_core.specs.Cores.{IsCore}
 use Rattle.mg_core.specs.Opening.{ClosesDisk, IsAnswer}
 use Rattle.mg_core.specs.declared.parts.Core.{Core}
 use Rattle.mg_database.specs.Finishing.{Ends as EndsStore, FailsToEnd, FailsWriting, Finishes, HasWrittenOn, WritesOn, offline, unsettled, unwritten}
-use Rattle.mg_engine_meaning.specs.PlainTables.{HasPlainTables}
+use Rattle.mg_engine_meaning.specs.PlainTables.{EachIsPlain}
 use Rattle.mg_engine_meaning.specs.Standings.{ShowsIt, StandsFor, StandsWhile, asked_in, sessions_in, standing_of}
 use Rattle.mg_image.specs.Form.{Pages, packed_form}
 use Rattle.mg_image.specs.Histories.{HoldsDurable}
@@ -244,8 +244,8 @@ module _ {D : Type 0} (m : Meaning D) (counts : CountsNow m) (holds_one : HoldsO
         → left_state chosen (state_at size (page_at size image)) ≡ left_state nobody (said old.list)
     states chosen = fun_ext (λ t. ap (left_by (chosen t)) (bits t) ∙ left_again (chosen t) (said old.list t))
 
-    plain : HasPlainTables size (state_at size (page_at size image)) (page_at size image)
-    plain chosen layout r sound its there = shows.plain_tables nobody layout r
+    plain : EachIsPlain size (state_at size (page_at size image)) (page_at size image)
+    plain chosen layout r sound its there = shows.plain_tables.each nobody layout r
         (subst (λ (ps : Pages). IsSoundBy packed_form size (left_state nobody (said old.list)) ps layout r) as_shown
         (subst (λ (x : ℕ → TxState). IsSoundBy packed_form size x (page_at size image) layout r) (states chosen)
         sound)) its there

@@ -3,7 +3,7 @@ use Rattle.std.specs.Prelude.{◌≡◌, ℕ, true, List, [], None, Some, Result
 use Rattle.mg_base.specs.Disk.{Meaning, Rose}
 use Rattle.mg_base.specs.Image.{Image, page_at}
 use Rattle.mg_core.specs.declared.parts.Core.{Core}
-use Rattle.mg_engine_meaning.specs.PlainTables.{HasPlainTables}
+use Rattle.mg_engine_meaning.specs.PlainTables.{EachIsPlain}
 use Rattle.mg_engine_meaning.specs.Standings.{StandsFor}
 use Rattle.mg_image.specs.Form.{packed_form}
 use Rattle.mg_image.specs.Histories.{HoldsDurable, durable_committed, newest_at}
@@ -35,7 +35,7 @@ pub record HasLeft {D : Type 0} (m : Meaning D) (disk : D) (size : ℕ) (o : Ope
   pub settled : IsSettledOn m disk image
   pub holds : HoldsDurable packed_form size (page_at size image) o h k
   pub sound : IsOpened packed_form size (page_at size image) holds.opened
-  pub plain : HasPlainTables size (state_at size (page_at size image)) (page_at size image)
+  pub plain : EachIsPlain size (state_at size (page_at size image)) (page_at size image)
   pub next : next_of (page_at size image) ≡ next_number o h
 
 -- An engine has left what its history has after its last durable event, and as many pages are free as its cache tells.

@@ -35,7 +35,7 @@ use Rattle.mg_engine_meaning.specs.BlankLaws.{header_is_made, no_header}
 use Rattle.mg_engine_meaning.specs.Closings.{GoesOnFrom, HasLeft, TakesUp}
 use Rattle.mg_engine_meaning.specs.GrowingLaws.{later_grows}
 use Rattle.mg_engine_meaning.specs.OpenedLaws.{settled_still}
-use Rattle.mg_engine_meaning.specs.PlainTables.{HasPlainTables}
+use Rattle.mg_engine_meaning.specs.PlainTables.{EachIsPlain}
 use Rattle.mg_engine_meaning.specs.CallLaws.{LeftIsTakenUp, RunsCompose}
 use Rattle.mg_engine_meaning.specs.Openings.{BeginsWith, IsOpenedOver, IsSettledOn}
 
@@ -75,7 +75,7 @@ module _ (begin : OpeningsBegin) (own_new : OwnRowsAreNew) (size : ℕ) (image :
   its_whole : IsOpening (begun packed_form packed_fitting size (page_at size image) held.opened is)
   its_whole = whole packed_form packed_fitting size (page_at size image) held.opened is
 
-  pub begins_with : HasPlainTables size (state_at size (page_at size image)) (page_at size image)
+  pub begins_with : EachIsPlain size (state_at size (page_at size image)) (page_at size image)
       → BeginsWith size image (begun packed_form packed_fitting size (page_at size image) held.opened is)
   begins_with plain = record {
     opened = held.opened;

@@ -68,12 +68,6 @@ one_among (t ∷ ts) table (inl same) = record { its = t; one = inl refl; same =
 one_among (t ∷ ts) table (inr more) =
     let it = one_among ts table more in record { its = it.its; one = inr it.one; same = it.same }
 
-among_one : (tables : List Table) (its table : Table) → IsOneOf tables its → IsSameTable its table
-    → StaysAmong tables table
-among_one [] its table one same = absurd one
-among_one (t ∷ ts) its table (inl is) same = inl (subst (λ (x : Table). IsSameTable x table) (sym is) same)
-among_one (t ∷ ts) its table (inr more) same = inr (among_one ts its table more same)
-
 -- A table of a name is one of these.
 record OneNamed (tables : List Table) (name : List ℕ) : Type 0 where
   its : Table
@@ -91,6 +85,15 @@ same_through a b c first second = record {
   name = first.name ∙ second.name;
   shape = first.shape ∙ second.shape;
   pointer = first.pointer ∙ second.pointer;
+}
+
+-- two that have the same indexes, too, are one
+pub same_whole : (a b : Table) → IsSameTable a b → a.indexes ≡ b.indexes → a ≡ b
+same_whole a b same indexes k = record {
+  name = same.name k;
+  shape = same.shape k;
+  pointer = same.pointer k;
+  indexes = indexes k;
 }
 
 pub same_back : (a b : Table) → IsSameTable a b → IsSameTable b a
@@ -340,19 +343,19 @@ module _ (form : Form) (one : RowsAreOne form.coding) (size : ℕ) (state now : 
         same = same_back x it.its same;
       }
 
-  -- a table that is one of the first layout's, but for indexes, is so one of the second one's, where that has its
-  -- name
-  pub stays_named : (x table : Table) → IsOneOf (tables_of a) x → IsSameTable x table
-      → HasTableOf (tables_of b) x.name → StaysAmong (tables_of b) table
-  stays_named x table is same named =
+  -- a table of the first layout is one of the second one's, where that has its name, and tables have the same indexes in
+  -- both
+  pub one_still : ((x y : Table) → IsTableOf a x → IsTableOf b y → IsSameTable x y → x.indexes ≡ y.indexes) → (x : Table)
+      → IsOneOf (tables_of a) x → HasTableOf (tables_of b) x.name → IsOneOf (tables_of b) x
+  one_still agree x is named =
       let it = one_named (tables_of b) x.name named in
       let from = one_among (tables_of a) it.its
       (one_each (StaysAmong (tables_of a)) (tables_of b) it.its each_stays it.one) in
       let x_is : from.its ≡ x = one_table form size state pages a r first from.its x
       (stands_in a from.its (inr from.one)) (stands_in a x (inr is)) (from.same.name ∙ it.named) in
       let alike_x : IsSameTable x it.its = subst (λ (z : Table). IsSameTable z it.its) x_is from.same in
-      among_one (tables_of b) it.its table it.one
-      (same_through it.its x table (same_back x it.its alike_x) same)
+      subst (IsOneOf (tables_of b)) (sym (same_whole x it.its alike_x
+      (agree x it.its (stands_in a x (inr is)) (stands_in b it.its (inr it.one)) alike_x))) it.one
 
   -- ---- records
 

@@ -17,7 +17,7 @@ use Rattle.mg_model.specs.Machine.{state_of}
 use Rattle.mg_model.specs.ReadLaws.{same_name_itself}
 use Rattle.mg_records.specs.Keeping.{CommitsStay, TablesStay, WalksStay}
 use Rattle.mg_records.specs.Reading.{shape_seen}
-use Rattle.mg_image.specs.Catalog.{StaysAmong, catalog_table}
+use Rattle.mg_image.specs.Catalog.{catalog_table}
 use Rattle.mg_image.specs.Form.{Pages, packed_form}
 use Rattle.mg_image.specs.Inventory.{header_of}
 use Rattle.mg_lasting.specs.Lasting.{LastsOn}
@@ -39,6 +39,7 @@ use Rattle.mg_engine_steps.specs.Known.{KnowsPages}
 use Rattle.mg_engine_steps.specs.Tables.{TablesAreTold}
 use Rattle.mg_engine_steps.specs.Walking.{WalkPlace}
 use Rattle.mg_engine_meaning.specs.Falling.{same_through}
+use Rattle.mg_image_overlays.specs.TableOwners.{IsOneOf}
 use Rattle.mg_engine_meaning.specs.KeptLaws.{alike_some, alike_there, kept_each, made_kept}
 use Rattle.mg_engine_meaning.specs.FrameLaws.{commits_of, kept_all, kept_with, others_given, same_sessions, works_with}
 use Rattle.mg_engine_meaning.specs.Frames.{WorksStay}
@@ -210,9 +211,9 @@ module _ {D P : Type 0} (m : Meaning D) (places : Places P) (begin : OpeningsBeg
     told_now = tables_told old.store.geometry.size o h s pages knows t name (Some table)
         (begin o shows.stands.opening) shows.stands.legal active seen_there
 
-    stays_there : StaysAmong (map (λ stand. stand.table) shows.stands.shows.layout.tables) table
+    stays_there : IsOneOf (map (λ stand. stand.table) shows.stands.shows.layout.tables) table
     stays_there = found_stand old.store.geometry.size o h s pages knows t name table (begin o shows.stands.opening)
-        shows.stands.legal stands.grows active seen_there
+        shows.stands.legal stands.grows active (stands.bases t.0) seen_there
 
     remembers_one : (u : ℕ) → state_of o h u ≡ Active → RemembersOne o h s u → RemembersOne o h s_with u
     remembers_one u is was = record {
@@ -253,15 +254,15 @@ module _ {D P : Type 0} (m : Meaning D) (places : Places P) (begin : OpeningsBeg
         at : (n : List ℕ) (given : Table) (b : Bool) → (u == t.0) ≡ b
             → cond b (cond (same_name n table.name) (Some table) (stands.tables u n)) (stands.tables u n)
             ≡ Some given
-            → StaysAmong (map (λ stand. stand.table) shows.stands.shows.layout.tables) given
+            → IsOneOf (map (λ stand. stand.table) shows.stands.shows.layout.tables) given
         at n given false other is = was.seen n given is
         at n given true own_ is = by (same_name n table.name) is
           where
             by : (b : Bool) → cond b (Some table) (stands.tables u n) ≡ Some given
-                → StaysAmong (map (λ stand. stand.table) shows.stands.shows.layout.tables) given
+                → IsOneOf (map (λ stand. stand.table) shows.stands.shows.layout.tables) given
             by false later = was.seen n given later
             by true some = let same : table ≡ given = cc in
-                subst (StaysAmong (map (λ stand. stand.table) shows.stands.shows.layout.tables)) same stays_there
+                subst (IsOneOf (map (λ stand. stand.table) shows.stands.shows.layout.tables)) same stays_there
 
     shows_with : ShowsHistory packed_form old.store.geometry.size o h s_with pages
     shows_with = record {

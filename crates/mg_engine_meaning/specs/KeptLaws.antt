@@ -4,7 +4,7 @@ use Rattle.std.specs.Prelude.{if◌then◌else◌, is_some, map}
 use Rattle.std.proofs.lemmas.Bool.{cases_eq}
 use Rattle.mg_base.specs.declared.transaction.TxState.{TxState}
 use Rattle.mg_engine_steps.specs.Known.{IsShown, seen_is_shown}
-use Rattle.mg_image.specs.Catalog.{IsSameTable, StaysAmong}
+use Rattle.mg_image.specs.Catalog.{IsSameTable}
 use Rattle.mg_image.specs.Form.{Pages, packed_form}
 use Rattle.mg_image.specs.Records.{Reading}
 use Rattle.mg_image.specs.Sound.{IsSoundBy}
@@ -28,7 +28,7 @@ alike_some (Some x) table alike = (x, refl, alike)
 -- tables of one name that stand on the same pages are alike
 pub alike_there : (size : ℕ) (state : ℕ → TxState) (pages : Pages) (layout : Layout) (r : Reading)
     → IsSoundBy packed_form size state pages layout r → (x y : Table)
-    → StaysAmong (map (λ stand. stand.table) layout.tables) x → StaysAmong (map (λ stand. stand.table) layout.tables) y
+    → IsOneOf (map (λ stand. stand.table) layout.tables) x → IsOneOf (map (λ stand. stand.table) layout.tables) y
     → x.name ≡ y.name → IsSameTable x y
 alike_there size state pages layout r sound x y first second name = record {
   name = name;

@@ -1,3 +1,4 @@
+pub mod AgreeLaws
 pub mod AlikeTables
 pub mod AskLaws
 pub mod BasesLaws

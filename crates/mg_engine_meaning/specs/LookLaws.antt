@@ -299,7 +299,7 @@ module _ {D P : Type 0} (m : Meaning D) (places : Places P) (idle_goes : IdleGoe
               subst (λ (z : Option Table). SeesAlike z table) (sym there.0) (same_through y x table
               (alike_there old.store.geometry.size (left_state everyone (said old.list))
               (shown old.store.dirty shows.image) shows.stands.shows.layout shows.stands.shows.reading
-              shows.stands.shows.sound y x ((tables_for o h stands shows).stays table.name y there.0)
+              shows.stands.shows.sound y x ((tables_for o h stands shows).stands table.name y there.0)
               ((shows.stands.shows.tables tx.0 continues.1).seen table.name x is) (there.1 ∙ sym same.name)) same)
 
           alike : (u : ℕ) (table : Table) → SeesAlike (stands.tables u table.name) table

@@ -9,7 +9,7 @@ use Rattle.mg_base.specs.declared.transaction.TxState.{TxState}
 use Rattle.mg_base.specs.declared.transaction.TxState.TheVariants.{Committed, Dead}
 use Rattle.mg_engine_meaning.specs.NewBegins.{NewBegin}
 use Rattle.mg_engine_meaning.specs.Openings.{BeginsWith, new_history}
-use Rattle.mg_engine_meaning.specs.PlainTables.{HasPlainTables, IsPlainTable}
+use Rattle.mg_engine_meaning.specs.PlainTables.{EachIsPlain, IsPlainTable}
 use Rattle.mg_format.specs.Format.{IsMade}
 use Rattle.mg_header.specs.declared.header.TheConstants.{GREATEST_NEXT}
 use Rattle.mg_image.specs.Form.{packed_form}
@@ -88,7 +88,7 @@ module _ (size : ℕ) (image : Image) (lawful : is_page_size size ≡ true) (mad
 pub new_begin : NewAreSound → NewAreOpened → StandsOneWay packed_form → NewBegin
 new_begin sound opened once free size image lawful made whole = by (opened size image lawful made whole)
   where
-    plain : IsNewSound size image → HasPlainTables size (state_at size (page_at size image)) (page_at size image)
+    plain : IsNewSound size image → EachIsPlain size (state_at size (page_at size image)) (page_at size image)
     plain is chosen layout r so its of = new_plain size image lawful made layout
         (once size (state_at size (page_at size image)) (page_at size image) layout new_layout r
         (new_reading is.bodies) (subst (λ (s : ℕ → TxState). IsSoundBy packed_form size s (page_at size image) layout r)

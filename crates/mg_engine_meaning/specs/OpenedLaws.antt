@@ -24,6 +24,7 @@ use Rattle.mg_survey.specs.Survey.{IsSameDisk}
 use Rattle.mg_txlist.specs.Laws.{LoadedSays}
 use Rattle.mg_works.specs.Works.{Working, has_session}
 use Rattle.mg_engine_meaning.specs.BlankLaws.{header_is_made}
+use Rattle.mg_engine_meaning.specs.AgreeLaws.{HistoriesAgree}
 use Rattle.mg_engine_meaning.specs.OpeningLaws.{as_shown, begins_standing, catalog_tested, header_read}
 use Rattle.mg_engine_meaning.specs.NewBegins.{NewBegin}
 use Rattle.mg_engine_meaning.specs.Openings.{IsOpenedOver, IsSettledOn, IsSoundImage, new_history}
@@ -110,7 +111,7 @@ ready_same m disk before after same pool keeps = record {
 -- ---- an engine
 
 module _ {D : Type 0} (m : Meaning D) (counts : CountsNow m) (stands_first : StandsFirst packed_form)
-    (starts : StartsOn D FireLinks m packed_form) (loaded : LoadedSays) (begin : OpeningsBegin)
+    (starts : StartsOn D FireLinks m packed_form) (loaded : LoadedSays) (begin : OpeningsBegin) (agree : HistoriesAgree)
     (new_begin : NewBegin) where
   module _ (disk : D) (limit : ℕ) (core : Core D) (opens : Opens m disk limit core) where
     abbrev size : ℕ
@@ -134,7 +135,7 @@ module _ {D : Type 0} (m : Meaning D) (counts : CountsNow m) (stands_first : Sta
         → HasWholePages size now → StandsFor m core (new_history free) []
     new_stands free now has tells whole =
         let same : has.image ≡ now = some_image has.image now (sym has.tells.held ∙ tells.held) in
-        begins_standing m disk limit core opens stands_first starts loaded begin now (new_history free)
+        begins_standing m disk limit core opens stands_first starts loaded begin agree now (new_history free)
         (record { tells = tells; only = λ c may. has.settled c may ∙ same })
         (new_begin free size now lawful (subst (IsMade size) same has.made) whole)
       where
@@ -158,8 +159,8 @@ module _ {D : Type 0} (m : Meaning D) (counts : CountsNow m) (stands_first : Sta
           ∙ opens.prepared.limit_is image held;
       shows = λ image tells. sym (as_shown m disk limit core opens image tells);
       header_is = λ image tells. header_read m disk limit core opens image tells;
-      stands = λ image o on it. begins_standing m disk limit core opens stands_first starts loaded begin image o on
-          it;
+      stands = λ image o on it. begins_standing m disk limit core opens stands_first starts loaded begin agree image o
+          on it;
       unwritten = kept;
       pointers = opens.pointers;
       data_pages = opens.data_pages;

@@ -11,7 +11,7 @@ use Rattle.mg_core.specs.declared.parts.Core.{Core}
 use Rattle.mg_database.specs.Loading.{SaysPages}
 use Rattle.mg_database.specs.Tested.{IsTested}
 use Rattle.mg_directory.specs.Candidates.{Kept, by_table}
-use Rattle.mg_engine_meaning.specs.PlainTables.{HasPlainTables}
+use Rattle.mg_engine_meaning.specs.PlainTables.{EachIsPlain, HasPlainTables}
 use Rattle.mg_engine_meaning.specs.Standings.{AreSeen, KeepsWritten, ShowsIt, StandsFor, StandsWhile, standing_of}
 use Rattle.mg_header.specs.HeaderPage.{reading}
 use Rattle.mg_header.specs.declared.header.Header.{Header}
@@ -44,6 +44,8 @@ use Rattle.mg_engine_meaning.specs.Standings.{asked_in, sessions_in}
 use Rattle.mg_engine_meaning.specs.BasesLaws.{first_bases}
 use Rattle.mg_engine_meaning.specs.Openings.{BeginsWith, IsSettledOn}
 use Rattle.mg_engine_meaning.specs.TipLaws.{tips_shown}
+use Rattle.mg_engine_meaning.specs.AgreeLaws.{HistoriesAgree}
+use Rattle.mg_engine_steps.specs.Standing.{Stands}
 
 module _ {D : Type 0} (m : Meaning D) (disk : D) (limit : ℕ) (core : Core D) (opens : Opens m disk limit core)
     (image : Image) (tells : Tells m core.store.disk image) where
@@ -90,7 +92,7 @@ module _ {D : Type 0} (m : Meaning D) (disk : D) (limit : ℕ) (core : Core D) (
 
 module _ {D : Type 0} (m : Meaning D) (disk : D) (limit : ℕ) (core : Core D) (opens : Opens m disk limit core)
     (stands_first : StandsFirst packed_form) (starts : StartsOn D FireLinks m packed_form)
-    (loaded : LoadedSays) (begin : OpeningsBegin) (image : Image) (o : Opening)
+    (loaded : LoadedSays) (begin : OpeningsBegin) (agree : HistoriesAgree) (image : Image) (o : Opening)
     (on : IsSettledOn m core.store.disk image) (it : BeginsWith core.store.geometry.size image o) where
   abbrev its_size : ℕ
   its_size = core.store.geometry.size
@@ -138,17 +140,24 @@ module _ {D : Type 0} (m : Meaning D) (disk : D) (limit : ℕ) (core : Core D) (
   same_states : state_at its_size its_pages ≡ said core.list
   same_states = fun_ext (λ t. sym (list_says.1 t))
 
+  stands : Stands packed_form its_size o [] (standing_of core (λ t name. 0) (λ t name. None)) (Some its_pages)
+  stands = stands_first its_size o (standing_of core (λ t name. 0) (λ t name. None)) its_pages it.opened opened_is
+      it.begins it.whole memory
+
   plain_tables : HasPlainTables its_size (said core.list) its_pages
-  plain_tables = subst (λ (x : ℕ → TxState). HasPlainTables its_size x its_pages) same_states
-      (subst (λ (ps : Pages). HasPlainTables its_size (state_at its_size ps) ps)
-      (as_shown m disk limit core opens image on.tells) it.plain_tables)
+  plain_tables = record {
+    each = subst (λ (x : ℕ → TxState). EachIsPlain its_size x its_pages) same_states
+        (subst (λ (ps : Pages). EachIsPlain its_size (state_at its_size ps) ps)
+        (as_shown m disk limit core opens image on.tells) it.plain_tables);
+    agree = agree its_size o [] (standing_of core (λ t name. 0) (λ t name. None)) its_pages
+        (record { memory = stands.memory; shows = stands.shows }) (begin o it.whole) stands.legal it.grows;
+  }
 
   shows : ShowsIt m core o [] (standing_of core (λ t name. 0) (λ t name. None))
   shows = record {
     image = image;
     held = on.tells.held;
-    stands = stands_first its_size o (standing_of core (λ t name. 0) (λ t name. None)) its_pages it.opened opened_is
-        it.begins it.whole memory;
+    stands = stands;
     lasts = lasts;
     tips = tips_shown its_size its_pages core.list opens.idle.core_is.size its_head.head;
     catalog = ap (λ (p : PageNo). p.0) its_head.catalog_is;

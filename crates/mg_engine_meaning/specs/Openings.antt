@@ -9,7 +9,7 @@ use Rattle.mg_core.specs.Opening.{RefusesOpen}
 use Rattle.mg_core.specs.declared.parts.Core.{Core}
 use Rattle.mg_database.specs.Loading.{front_length, is_front}
 use Rattle.mg_database.specs.Tested.{IsTested}
-use Rattle.mg_engine_meaning.specs.PlainTables.{HasPlainTables}
+use Rattle.mg_engine_meaning.specs.PlainTables.{EachIsPlain}
 use Rattle.mg_engine_meaning.specs.Standings.{StandsFor}
 use Rattle.mg_format.specs.Format.{HasNew, IsMade, IsUnmadeImage, LeavesNew}
 use Rattle.mg_grown_catalogs.specs.Grown.{CatalogGrows}
@@ -59,7 +59,7 @@ pub record BeginsWith (size : ℕ) (image : Image) (o : Opening) : Type 0 where
   pub whole : IsOpening o
   pub limit : o.limit.0 ≡ GREATEST_NEXT
   pub grows : CatalogGrows o []
-  pub plain_tables : HasPlainTables size (state_at size (page_at size image)) (page_at size image)
+  pub plain_tables : EachIsPlain size (state_at size (page_at size image)) (page_at size image)
 
 -- a history of a new database begins with this, where so many pages are free
 abbrev pub new_history : ℕ → Opening

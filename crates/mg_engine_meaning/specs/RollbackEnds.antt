@@ -168,8 +168,7 @@ noted_by_dead one ways size state now pages t active dead others plain a r first
     (sym (dead_same state now t active dead others everyone))
     (λ b s second. chosen_has packed_form one ways size state pages a r first (without t everyone) b s second
     (table_in_first one size state pages a r first (without t everyone) b s second
-    (λ x there. (plain everyone a r first x there).no_index)
-    (λ x there. (plain (without t everyone) b s second x there).no_index))
+    (plain.agree everyone (without t everyone) a b r s first second))
     (by_table kept.dirs) (by_table kept.dirs) noted (λ first_ dir is. is) b s second)
 
 -- ---- the engine
@@ -208,7 +207,7 @@ module _ {D P : Type 0} (m : Meaning D) (places : Places P) (one : RowsAreOne pa
       (standing_of (left_by old waits list old.store t.0) stands.numbers stands.tables) old.store shows.image
       (asked_in old.works) (asked_in (without_work t.0 old.works)) (sessions_in old.works)
       (sessions_in (without_work t.0 old.works)) shows.stands shows.lasts core.pool shows.held stands.grows
-      (lawful o h stands) refl refl refl continues.1
+      shows.plain_tables.agree (lawful o h stands) refl refl refl continues.1
       (keep_asking m places old waits list old.store t.0 Dead ends not_active o h (entry (Rollback t) Fine) refl)
       (follows o h stands) in record {
         image = shows.image;

@@ -2,7 +2,6 @@
 use Rattle.std.proofs.Common.{Ok, Err}
 use Rattle.mg_base.specs.Disk.{Meaning}
 use Rattle.mg_heap.specs.Stands.{WalksMeetNoDamage}
-use Rattle.mg_image.specs.Form.{packed_form}
 use Rattle.mg_lasting.specs.StartingLaws.{StartsOn}
 use Rattle.mg_model.specs.Laws.{OpeningsBegin}
 use Rattle.mg_space.specs.ViewLaws.{CountsNow}
@@ -10,6 +9,10 @@ use Rattle.mg_space.specs.declared.links.FireLinks.{FireLinks}
 use Rattle.mg_engine_steps.specs.StartLaws.{StandsFirst}
 use Rattle.mg_txlist.specs.Laws.{LoadedSays}
 use Rattle.mg_new_databases.specs.Readable.{NewAreReadable}
+use Rattle.mg_image.specs.Form.{packed_coding, packed_form}
+use Rattle.mg_image.specs.ReadingLaws.{RowsAreOne}
+use Rattle.mg_engine_steps.specs.ChosenTables.{ChosenTablesStand}
+use Rattle.mg_engine_meaning.specs.AgreeLaws.{histories_agree}
 use Rattle.mg_engine_meaning.specs.CallLaws.{OpeningsStand}
 use Rattle.mg_engine_meaning.specs.NewBegins.{NewBegin}
 use Rattle.mg_engine_meaning.specs.OpenedLaws.{opened_over}
@@ -17,8 +20,11 @@ use Rattle.mg_engine_meaning.specs.RefusalLaws.{AreCounted}
 use Rattle.mg_engine_meaning.specs.OpeningsRefusedLaws.{refuses_opening}
 
 pub openings_stand_by : (D : Type 0) (m : Meaning D) → CountsNow m → AreCounted m → WalksMeetNoDamage m → NewAreReadable
-    → StandsFirst packed_form → StartsOn D FireLinks m packed_form → LoadedSays → OpeningsBegin → NewBegin → OpeningsStand D m
-openings_stand_by D m counts counted walks new_reads stands_first starts loaded begin new_begins disk limit (Ok core) opens =
-    opened_over m counts stands_first starts loaded begin new_begins disk limit core opens
-openings_stand_by D m counts counted walks new_reads stands_first starts loaded begin new_begins disk limit (Err both) refuses =
+    → StandsFirst packed_form → StartsOn D FireLinks m packed_form → LoadedSays → OpeningsBegin → RowsAreOne packed_coding
+    → ChosenTablesStand → NewBegin → OpeningsStand D m
+openings_stand_by D m counts counted walks new_reads stands_first starts loaded begin one stand new_begins disk limit
+    (Ok core) opens =
+    opened_over m counts stands_first starts loaded begin (histories_agree one stand) new_begins disk limit core opens
+openings_stand_by D m counts counted walks new_reads stands_first starts loaded begin one stand new_begins disk limit
+    (Err both) refuses =
     refuses_opening m counts counted walks new_reads disk both.0 limit both.1 refuses

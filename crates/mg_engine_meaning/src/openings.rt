@@ -13,9 +13,10 @@ ghost use Rattle.mg_engine_meaning.specs.CallLaws.{ClosingsLeave, LeftIsTakenUp,
 ghost use Rattle.mg_engine_meaning.specs.NewBegins.{NewBegin};
 
 use mg_base::Disk;
-use mg_engine_steps::standings_begin;
+use mg_engine_steps::{chosen_tables_stand, standings_begin};
 use mg_grown_catalogs::catalogs_grow;
 use mg_heap::walks_of_layouts_meet_no_damage;
+use mg_image::one_reading;
 use mg_image_overlays::sound_images_stand_one_way;
 use mg_lasting::{pools_last, starts_last};
 use mg_model::histories_go_on;
@@ -42,6 +43,8 @@ pub fn openings_stand<D: Disk>()
     starts_last::<D, FireLinks>();
     loaded_lists_say_what_images_say();
     histories_go_on();
+    one_reading();
+    chosen_tables_stand();
 }
 
 /// An engine that is closed leaves what its history has.

@@ -168,10 +168,9 @@ module _ (one : RowsAreOne packed_coding) (size : ℕ) (state : ℕ → TxState)
       (subst (λ (ts : List Table). EachTable (StaysAmong ts) named) all_are
       (first.names.stay (λ u. chosen u || is_limbo (state u)) (λ t. true) (λ t is. refl)))
 
-  -- ---- where no table has an index
+  -- ---- where a table has the same indexes in both
 
-  module _ (bare_a : (x : Table) → IsTableOf a x → x.indexes ≡ [])
-      (bare_b : (x : Table) → IsTableOf b x → x.indexes ≡ []) where
+  module _ (agree : (x y : Table) → IsTableOf a x → IsTableOf b y → IsSameTable x y → x.indexes ≡ y.indexes) where
     -- each table of the second stands in the first
     pub table_in_first : (x : Table) → IsTableOf b x → IsTableOf a x
     table_in_first x there = at (one_standing b x there)
@@ -183,12 +182,12 @@ module _ (one : RowsAreOne packed_coding) (size : ℕ) (state : ℕ → TxState)
             (one_each (StaysAmong (map (λ stand. stand.table) a.tables)) (map (λ stand. stand.table) b.tables) x stay is)
             in
             let y_there : IsTableOf a y = stands_in a y (inr is_one) in
-            let bare : y.indexes ≡ x.indexes = bare_a y y_there ∙ sym (bare_b x there) in
+            let indexes : y.indexes ≡ x.indexes = agree y x y_there there same in
             subst (IsTableOf a) (λ i. record {
               name = same.name i;
               shape = same.shape i;
               pointer = same.pointer i;
-              indexes = bare i;
+              indexes = indexes i;
             }) y_there
 
     -- one of the first's, whose name one of the second's has, is that
