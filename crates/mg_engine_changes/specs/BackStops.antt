@@ -3,6 +3,7 @@
 use Rattle.std.specs.Prelude.{◌≡◌, ℕ, true, false, List, ◌∷◌, None, Some}
 use Rattle.mg_base.specs.Disk.{Meaning}
 use Rattle.mg_base.specs.Image.{Image}
+use Rattle.mg_engine_meaning.specs.PlainTables.{IndexesAgree}
 use Rattle.mg_engine_steps.specs.Again.{rolling}
 use Rattle.mg_engine_steps.specs.Midway.{LastsDead}
 use Rattle.mg_engine_changes.specs.RowsLost.{LoseRows}
@@ -56,7 +57,8 @@ StopsAreGivenUp D L m = (o : Opening) (h : Entries) (e refused : Entry) (point :
     → CatalogGrows o h → IsLawful o h refused → IsLawful o (refused ∷ h) (rolling t) → is_durable refused ≡ false
     → may_last refused ≡ false → GivesUp o h refused (rolling t) t s mid new
     → KeepAsking o (rolling t ∷ refused ∷ h) asked now_asked session now_session
-    → StopsReading m o h e point t s start stopped k j asked session begins → EndsOver m start stopped j
+    → (stops : StopsReading m o h e point t s start stopped k j asked session begins) → EndsOver m start stopped j
+    → IndexesAgree start.geometry.size s.state (shown stops.mid.dirty stops.between)
     → Stands packed_form start.geometry.size o (rolling t ∷ refused ∷ h) new (Some (shown stopped.dirty j))
     × LastsOn m packed_form o (rolling t ∷ refused ∷ h) stopped now_asked now_session
     × LeavesSince m start.disk stopped.disk (HoldsAcknowledged packed_form start.geometry.size o h)

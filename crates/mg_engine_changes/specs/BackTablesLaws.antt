@@ -146,7 +146,7 @@ module _ (one : RowsAreOne packed_coding) (names_tell : NamesTellTables packed_f
     (h : Entries) (s : Standing) (pages : Pages) (a : Layout) (r : Reading)
     (sound : IsSoundBy packed_form size (left_state everyone s.state) pages a r)
     (kept : (chosen : ℕ → Bool) → IsKept packed_form size o h (left_state chosen s.state) pages pages)
-    (bare : HasPlainTables size s.state pages) (t : ℕ) (active : s.state t ≡ Active) (its : Table)
+    (plain : HasPlainTables size s.state pages) (t : ℕ) (active : s.state t ≡ Active) (its : Table)
     (off_catalog : its.name ≢ catalog_name) (there : IsTableOf a its) where
   abbrev f : Facts
   f = facts_by (left_state everyone s.state) pages a
@@ -178,7 +178,7 @@ module _ (one : RowsAreOne packed_coding) (names_tell : NamesTellTables packed_f
 
   named_for : IsNamed f r cat its.name → IsNamedFor packed_form size t s.state pages its
   named_for named chosen layout q also = inl (stands_by_committed one size s.state pages a r sound chosen layout q
-      also (λ x is_. (bare everyone a r sound x is_).no_index) (λ x is_. (bare chosen layout q also x is_).no_index) its
+      also (plain.agree everyone chosen a layout r q sound also) its
       there named.place named.row (record {
         of_table = named.shows.of_table;
         row_shown = ap (λ (c : ℕ → Bool). shown c (r named.place)) (fun_ext (committed_only f)) ∙ named.shows.row_shown;
@@ -242,13 +242,13 @@ module _ (one : RowsAreOne packed_coding) (names_tell : NamesTellTables packed_f
         at : (b : Bool) → chosen t ≡ b → IsTableOf layout its
             ⊎ ((left_state chosen s.state t ≡ Dead) × EachStand (λ stand. stand.table.name ≢ its.name) (stands_of layout))
         at true is = inl (stands_by_row one size s.state pages a r sound chosen layout q also
-            (λ x is_. (bare everyone a r sound x is_).no_index) (λ x is_. (bare chosen layout q also x is_).no_index) its
+            (plain.agree everyone chosen a layout r q sound also) its
             there made.place made.version.row
             (record { of_table = made.limbo.of_table; row_shown = counts_too chosen is }) made.keyed)
         at false off = inr (
           ap (λ (b : Bool). left_by b (s.state t)) off ∙ ap (left_by false) active,
           none_by_rows one size s.state pages a r sound chosen layout q also
-              (λ x is_. (bare everyone a r sound x is_).no_index) (λ x is_. (bare chosen layout q also x is_).no_index)
+              (plain.agree everyone chosen a layout r q sound also)
               its.name off_catalog (no_row none chosen off),
         )
 
@@ -278,8 +278,8 @@ module _ (one : RowsAreOne packed_coding) (names_tell : NamesTellTables packed_f
   may_write d own (inr (inr (inr made))) = by_made (subst (λ (u : ℕ). HasMade f r cat u its.name) own made)
 
 pub its_tables_may_be_written : RowsAreOne packed_coding → NamesTellTables packed_form → ItsTablesMayBeWritten
-its_tables_may_be_written one names_tell size o h s pages layout reading sound kept bare t active its off_catalog rec
-    newest older of read own = may_write one names_tell size o h s pages layout reading sound kept bare t active its
+its_tables_may_be_written one names_tell size o h s pages layout reading sound kept plain t active its off_catalog rec
+    newest older of read own = may_write one names_tell size o h s pages layout reading sound kept plain t active its
     off_catalog (table_at_stands layout rec.page.0 its of) newest own
     (subst (Each (MayStandIn (facts_by (left_state everyone s.state) pages layout) reading layout.catalog.table its)) read
     (sound.own_tables rec its of)).0

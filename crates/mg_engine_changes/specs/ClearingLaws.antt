@@ -212,8 +212,8 @@ module _ (one : RowsAreOne packed_coding) (one_way : StandsOneWay packed_form) (
 
   each : ForEach packed_form before.geometry.size s.state (shown before.dirty i) (λ st layout r. IsTableOf layout its)
   each chosen layout q sound = stands_by_committed one size s.state pool shows.layout shows.reading shows.sound chosen
-      layout q sound (λ x is_. (plain everyone shows.layout shows.reading shows.sound x is_).no_index)
-      (λ x is_. (plain chosen layout q sound x is_).no_index) its may.stands named.place named.row (record {
+      layout q sound (plain.agree everyone chosen shows.layout layout shows.reading q shows.sound sound) its may.stands
+      named.place named.row (record {
         of_table = named.shows.of_table;
         row_shown = ap (λ (c : ℕ → Bool). shown_row c (shows.reading named.place)) (fun_ext (committed_only f))
             ∙ named.shows.row_shown;

@@ -21,6 +21,7 @@ use Rattle.mg_engine_changes.specs.Keys.{CoresTakeAll, HasTakenKeys}
 use Rattle.mg_engine_changes.specs.TakingSteps.{StandsMidway, TakesKeysOf, no_keys, one_key}
 use Rattle.mg_engine_changes.specs.ToTake.{EachChange, KeysAreTaken, SinceAreTaken, since_point}
 use Rattle.mg_engine_meaning.specs.KeptLaws.{kept_with_work}
+use Rattle.mg_engine_meaning.specs.PlainLaws.{plain_tables_from}
 use Rattle.mg_engine_meaning.specs.PlainTables.{HasPlainTables}
 use Rattle.mg_engine_meaning.specs.Standings.{AreOfKept, AreSeen, AreTold, HasTips, KeepsWritten, ShowsIt, StandsFor, StandsWhile, asked_in, asked_kept, mode_kept, session_kept, sessions_in, standing_of, undo_kept, written_kept, SeesAlike}
 use Rattle.mg_engine_meaning.specs.StepLaws.{shows_of}
@@ -522,9 +523,15 @@ module _ {D : Type 0} (m : Meaning D) (openings : OpeningsBegin) (unask : Unaski
       keeps_lists.tips.tips shows.tips)
 
   plain_now : HasPlainTables size (said old.list) (shown takes.takes.taken.store.dirty rows.image)
-  plain_now chosen layout q sound its of =
-      let stood = step.1.before chosen layout q sound its of in
-      taken.knows.plain chosen stood.layout stood.reading stood.sound its stood.of
+  plain_now = plain_tables_from size (said old.list) (said old.list) (shown both.mid.store.dirty taken.image)
+      (shown takes.takes.taken.store.dirty rows.image) taken.knows.plain (λ chosen layout q sound its of.
+      let stood = step.1.before chosen layout q sound its of in record {
+        chosen = chosen;
+        before = stood.layout;
+        reading = stood.reading;
+        sound = stood.sound;
+        there = stood.of;
+      })
 
   noted_now : StaysNoted size (said old.list) pages (shown takes.takes.taken.store.dirty rows.image)
   noted_now dirs noted = left_noted one_way size (said old.list) t (shown both.mid.store.dirty taken.image)

@@ -280,7 +280,7 @@ module _ (speakers : SpeakersAreTold) (befores : BeforesAreTold) (follow : MadeW
       shows.plain_tables stands.grows is_active seen there.stands there.same.name
 
   plain_its : IsPlainTable there.its
-  plain_its = shows.plain_tables everyone shows.stands.shows.layout shows.stands.shows.reading
+  plain_its = shows.plain_tables.each everyone shows.stands.shows.layout shows.stands.shows.reading
       shows.stands.shows.sound there.its there.stands
 
   pub codes : CodesRow packed_coding there.its v (row_stored table write) t.0 (written_at table write)

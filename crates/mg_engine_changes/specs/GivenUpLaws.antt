@@ -5,12 +5,13 @@ use Rattle.std.proofs.lemmas.Bool.{eq-eqb, false≢true, ne_eqb}
 use Rattle.mg_base.specs.declared.numbers.RecId.{RecId}
 use Rattle.mg_base.specs.declared.transaction.TxState.{TxState}
 use Rattle.mg_base.specs.declared.transaction.TxState.TheVariants.{Active, Committed, Dead, Limbo}
+use Rattle.mg_engine_meaning.specs.PlainTables.{IndexesAgree}
 use Rattle.mg_engine_steps.specs.TableAnswers.{shown_key}
 use Rattle.mg_engine_steps.specs.Again.{AreTaken}
 use Rattle.mg_engine_steps.specs.OwnChains.{change_there, none_second, own_told}
 use Rattle.mg_engine_steps.specs.Shown.{IsTakenBack, ShowsMidway}
 use Rattle.mg_engine_meaning.specs.AlikeTables.{versions_alike}
-use Rattle.mg_engine_meaning.specs.Falling.{Falls, HasAlike, alike, goes, read_alike, same_back, stays_named, stays_unless}
+use Rattle.mg_engine_meaning.specs.Falling.{Falls, HasAlike, alike, goes, read_alike, same_back, one_still, stays_unless, all_but}
 use Rattle.mg_engine_changes.specs.Dying.{DiesMidway, GoesForOthers, StaysForOthers, versions_die_midway}
 use Rattle.mg_engine_changes.specs.GivenUp.{GivenUpIsShown, GivesUp}
 use Rattle.mg_engine_changes.specs.OwnVersions.{back_without, behind_none, told_dead}
@@ -18,7 +19,7 @@ use Rattle.mg_generations.specs.After.{generations_back, leaves_versions}
 use Rattle.mg_generations.specs.Generations.{Generation, is_newest_by, put, without_newest_by}
 use Rattle.mg_generations.specs.Kept.{IsErasedForAll, StandFor}
 use Rattle.mg_grown_catalogs.specs.Grown.{CatalogGrows, SeenIsNotMade}
-use Rattle.mg_image.specs.Catalog.{IsSameTable, StaysAmong, committed_with}
+use Rattle.mg_image.specs.Catalog.{IsSameTable, committed_with}
 use Rattle.mg_image.specs.Form.{Pages, Row, packed_coding, packed_form}
 use Rattle.mg_image.specs.Histories.{newest_at}
 use Rattle.mg_image.specs.ReadingLaws.{RowsAreOne}
@@ -51,6 +52,8 @@ use Rattle.mg_engine_steps.specs.Versions.{HaveVersions, IsRecordOf, SpeaksFor, 
 use Rattle.mg_image_overlays.specs.OneTable.{one_table, stands_in, table_at_stands}
 use Rattle.mg_value.specs.declared.shape.Shape.{Shape}
 use Rattle.mg_value.specs.declared.value.Value.{Value}
+use Rattle.mg_image_overlays.specs.Growing.{IsTableOf}
+use Rattle.mg_engine_changes.specs.EngineGivenUp.{states_now}
 
 -- a deletion that all see is no active transaction's
 not_erased : (o : Opening) (h : Entries) (t : ℕ) (gs : List Generation) → state_of o h t ≡ Active
@@ -107,6 +110,7 @@ module _ (one : RowsAreOne packed_coding) (seen_law : SeenIsNotMade) (stay : Ver
     (whole left : List Change) (s mid new : Standing) (begun pages : Pages)
     (shows : ShowsHistory packed_form size o h s begun) (opening : MayBegin o)
     (legal : IsLegal o (rolled ∷ refused ∷ h)) (memory : Remembers o h s) (grows : CatalogGrows o h)
+    (agree : IndexesAgree size s.state pages)
     (taken : AreTaken o h e t whole) (gives : GivesUp o h refused rolled t s mid new)
     (midway : ShowsMidway packed_form size o h e t whole left s begun shows pages) (b : Layout) (q : Reading)
     (second : IsSoundBy packed_form size (left_state everyone new.state) pages b q) where
@@ -147,6 +151,12 @@ module _ (one : RowsAreOne packed_coding) (seen_law : SeenIsNotMade) (stay : Ver
 
   abbrev r0 : Reading
   r0 = shows.reading
+
+  -- tables have the same indexes in both
+  same_there : (x y : Table) → IsTableOf a x → IsTableOf b y → IsSameTable x y → x.indexes ≡ y.indexes
+  same_there = agree everyone (all_but t) a b r q midway.sound
+      (subst (λ (x : ℕ → TxState). IsSoundBy packed_form size x pages b q)
+      (sym (states_now o h refused rolled t s mid new gives)) second)
 
   abbrev f0 : Facts
   f0 = facts_by before begun shows.layout
@@ -425,7 +435,7 @@ module _ (one : RowsAreOne packed_coding) (seen_law : SeenIsNotMade) (stay : Ver
 
     -- a table that it sees stays
     seen : (name : List ℕ) (table : Table) → new.table u name ≡ Some table
-        → StaysAmong (map (λ stand. stand.table) b.tables) table
+        → IsOneOf (map (λ stand. stand.table) b.tables) table
     seen name table some = on (finds.seen name table was)
       where
         was : s.table u name ≡ Some table
@@ -453,28 +463,12 @@ module _ (one : RowsAreOne packed_coding) (seen_law : SeenIsNotMade) (stay : Ver
         its_row = told_row (shape_seen o h u name) refl
             (subst (IsSeenAs name (shape_seen o h u name)) was ((memory.active u active_told).table name))
 
-        on : StaysAmong (map (λ stand. stand.table) a.tables) table
-            → StaysAmong (map (λ stand. stand.table) b.tables) table
-        on stays = by (map (λ stand. stand.table) a.tables) (λ x one_. one_) stays
-          where
-            stays_there : (x : Table) → IsOneOf (map (λ stand. stand.table) a.tables) x → IsSameTable x table
-                → StaysAmong (map (λ stand. stand.table) b.tables) table
-            stays_there x one_ same = from_name (stays_unless packed_form one size before now t falls pages a b r q
-                midway.sound second x one_ (λ p v vs row of first shows_it keyed its.
-                not_its u active_told apart name its_row.1.0 its_row.1.1 p v vs row of first shows_it
-                (keyed ∙ ap table_key (same.name ∙ its_row.0)) its))
-              where
-                from_name : HasTableOf (map (λ stand. stand.table) b.tables) x.name
-                    → StaysAmong (map (λ stand. stand.table) b.tables) table
-                from_name named = stays_named packed_form one size before now t falls pages a b r q midway.sound
-                    second x table one_ same named
-
-            by : (ts : List Table) → ((x : Table) → IsOneOf ts x
-                → IsOneOf (map (λ stand. stand.table) a.tables) x) → StaysAmong ts table
-                → StaysAmong (map (λ stand. stand.table) b.tables) table
-            by [] in_it stays_ = absurd stays_
-            by (x ∷ ts) in_it (inl same) = stays_there x (in_it x (inl refl)) same
-            by (x ∷ ts) in_it (inr more) = by ts (λ y one_. in_it y (inr one_)) more
+        on : IsOneOf (map (λ stand. stand.table) a.tables) table
+            → IsOneOf (map (λ stand. stand.table) b.tables) table
+        on one_ = one_still packed_form one size before now t falls pages a b r q midway.sound second same_there table one_
+            (stays_unless packed_form one size before now t falls pages a b r q midway.sound second table one_
+            (λ p v vs row of first shows_it keyed its. not_its u active_told apart name its_row.1.0 its_row.1.1 p v vs row
+            of first shows_it (keyed ∙ ap table_key its_row.0) its))
 
     number_same : new.number u ≡ s.number u
     number_same = keeps_then.number ∙ keeps_first.number
@@ -528,5 +522,5 @@ module _ (one : RowsAreOne packed_coding) (seen_law : SeenIsNotMade) (stay : Ver
 
 pub given_up_is_shown : RowsAreOne packed_coding → SeenIsNotMade → VersionsStay → OthersKeepTables → GivenUpIsShown
 given_up_is_shown one seen_law stay keep size o h e refused rolled t whole left s mid new begun pages shows opening
-    legal memory grows taken gives midway layout reading sound = shows_now one seen_law stay keep size o h e refused
-    rolled t whole left s mid new begun pages shows opening legal memory grows taken gives midway layout reading sound
+    legal memory grows agree taken gives midway layout reading sound = shows_now one seen_law stay keep size o h e refused
+    rolled t whole left s mid new begun pages shows opening legal memory grows agree taken gives midway layout reading sound

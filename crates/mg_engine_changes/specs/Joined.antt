@@ -95,9 +95,9 @@ pub record Joins (form : Form) (size : ℕ) (now : ℕ → TxState) (t : ℕ) (o
   pub keys : HaveOwnKeys (rows_stored made)
   pub alone : AreTables (rows_by made) (stand.table ∷ [])
   pub fits : FitsPages size stand.table
-  -- rows are found in indexes
-  pub found : (p : RecId) (table : Table) (row : Row) → table_at (stands_of (layout_with a c stand)) p.page.0 ≡ Some table
-      → IsFoundIn new table.indexes p row
+  -- rows are found in indexes still
+  pub found : (p : RecId) (table : Table) (row : Row) → table_at a.tables p.page.0 ≡ Some table
+      → IsFoundIn old table.indexes p row → IsFoundIn new table.indexes p row
 
 -- so the pages after are sound with the maker in limbo, and have the rows beside all that was read before
 abbrev pub JoinedAreSound : Form → Type 0

@@ -69,8 +69,8 @@ pub record HasPages (form : Form) (size : ℕ) (old new : Pages) (a c : Layout) 
   pub once : IsOnce (linked_pages size new (layout_with a c stand))
   pub left : (n : ℕ) (table : Table) → table_at a.tables n ≡ Some table → new n ≡ old n
   pub apart : (n : ℕ) (table : Table) → table_at a.tables n ≡ Some table → has c.catalog.data_pages n ≡ false
-  pub found : (p : RecId) (table : Table) (row : Row) → table_at (stands_of (layout_with a c stand)) p.page.0 ≡ Some table
-      → IsFoundIn new table.indexes p row
+  pub found : (p : RecId) (table : Table) (row : Row) → table_at a.tables p.page.0 ≡ Some table
+      → IsFoundIn old table.indexes p row → IsFoundIn new table.indexes p row
 
 -- the rows of a table say it alone, under their own keys, and no record of a sound image takes one of these
 pub record AreItsRows (form : Form) (size : ℕ) (state : ℕ → TxState) (pages : Pages) (rows : List Row) (table : Table)

@@ -12,6 +12,7 @@ use Rattle.mg_base.specs.declared.transaction.TxState.TheVariants.{Committed, Li
 use Rattle.mg_value.specs.declared.value.Value.{Value}
 use Rattle.mg_header.specs.HeaderPage.{header_in}
 use Rattle.mg_slots.specs.DataPage.{cell_of}
+use Rattle.mg_model.specs.declared.table.Index.{Index}
 use Rattle.mg_model.specs.declared.table.Table.{Table}
 use Rattle.mg_model.specs.Changes.{by_order}
 use Rattle.mg_version.specs.declared.cell.Cell.{Cell}
@@ -19,7 +20,7 @@ use Rattle.mg_version.specs.declared.cell.Link.{Link}
 use Rattle.mg_image.specs.declared.entry.Entry.{Entry}
 use Rattle.mg_image.specs.Catalog.{HasMade, IsNamed, MayStandIn}
 use Rattle.mg_image.specs.FactLaws.{each_has}
-use Rattle.mg_image.specs.Form.{Form, Pages}
+use Rattle.mg_image.specs.Form.{Form, Pages, Row}
 use Rattle.mg_image.specs.Inventory.{next_of, oldest_of}
 use Rattle.mg_image.specs.RecordRules.{Each, EachBack, Facts, IsRecord, IsVersion, TakesKey, committed_in, table_in}
 use Rattle.mg_image.specs.Records.{Cells, Chain, Reading, Stands, cells_of, ended, goes, key_of, newest_of, record_key, shown, slot_cell, writer}
@@ -30,6 +31,8 @@ use Rattle.mg_engine_changes.specs.Joined.{IsMade, JoinedAreSound, Joins, layout
 use Rattle.mg_engine_changes.specs.JoinedNames.{cat_is, names_joined, of_catalog, of_other, read_still, same_catalog, was_of_catalog, was_other}
 use Rattle.mg_engine_changes.specs.JoinedRows.{cases_made, catalog_named, catalog_page, made_once, other_name}
 use Rattle.mg_engine_changes.specs.Rows.{MadeRow, reading_with}
+use Rattle.mg_image.specs.Held.{HasLimbo, Shows}
+use Rattle.mg_image.specs.Indexes.{IsFoundIn}
 
 -- ---- lists
 
@@ -410,6 +413,36 @@ module _ (form : Form) (size : ℕ) (state now : ℕ → TxState) (t : ℕ) (old
           (each_has (MayStandIn f r a.catalog.table table) (MayStandIn g s c.catalog.table table) may (r p)
           (before.own_tables p table it.of_before))
 
+  -- ---- rows are found in indexes: the catalog has none, and those of other tables are as they were
+
+  none_asked : (p : RecId) (table : Table) (row : Row) → InCatalog p table → IsFoundIn new table.indexes p row
+  none_asked p table row it = subst (λ (is : List Index). IsFoundIn new is p row)
+      (sym (ap (λ (x : Table). x.indexes) (it.its ∙ before.catalog))) tt
+
+  committed_on : (p : RecId) (table : Table) (row : Row) → Shows g (committed_in g) s p table row
+      → IsFoundIn new table.indexes p row
+  committed_on p table row shows = at (whose p table shows.of_table)
+    where
+      at : InCatalog p table ⊎ InOther p table → IsFoundIn new table.indexes p row
+      at (inl it) = none_asked p table row it
+      at (inr it) = joins.found p table row it.there (before.indexed.committed p table row (record {
+        of_table = it.of_before;
+        row_shown = ap (shown (committed_in f)) (sym it.reads) ∙ shows.row_shown;
+      }))
+
+  limbo_on : (p : RecId) (table : Table) (e : Entry) → HasLimbo g s p table e → e.version.deleted ≡ false
+      → IsFoundIn new table.indexes p e.row
+  limbo_on p table e has_ alive = at (whose p table has_.of_table)
+    where
+      at : InCatalog p table ⊎ InOther p table → IsFoundIn new table.indexes p e.row
+      at (inl it) = none_asked p table e.row it
+      at (inr it) = joins.found p table e.row it.there (before.indexed.limbo p table e (record {
+        of_table = it.of_before;
+        older = has_.older;
+        newest = sym it.reads ∙ has_.newest;
+        limbo = has_.limbo;
+      }) alive)
+
   -- ---- the whole
 
   pub joined_sound : IsSoundBy form size now new (layout_with a c stand) (reading_with made r)
@@ -435,10 +468,7 @@ module _ (form : Form) (size : ℕ) (state now : ℕ → TxState) (t : ℕ) (old
     limbo = subst (λ (n : ℕ). (u : ℕ) → u < n → now u ≢ Limbo)
         (sym (ap (λ (page : List ℕ). (header_in page).oat.0) joins.header)) before.limbo;
     own_tables = own_on;
-    indexed = record {
-      committed = λ p table row shows. joins.found p table row shows.of_table;
-      limbo = λ p table e has_ alive. joins.found p table e.row has_.of_table;
-    };
+    indexed = record { committed = committed_on; limbo = limbo_on };
   }
 
 pub joined_are_sound : (form : Form) → JoinedAreSound form

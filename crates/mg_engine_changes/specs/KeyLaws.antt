@@ -136,7 +136,7 @@ module _ {D : Type 0} (m : Meaning D) (holds : HoldsOne D m) (coded : StoredRows
       at false is = is
 
   plain_its : IsPlainTable shown_there.its
-  plain_its = knows.plain everyone midway.pages.layout midway.pages.reading midway.pages.sound shown_there.its
+  plain_its = knows.plain.each everyone midway.pages.layout midway.pages.reading midway.pages.sound shown_there.its
       shown_there.stands
 
   -- ---- the record

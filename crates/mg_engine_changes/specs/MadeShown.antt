@@ -77,7 +77,7 @@ use Rattle.mg_engine_changes.specs.BatchLeaves.{batch_leaves}
 use Rattle.mg_engine_changes.specs.MadePages.{MadePages}
 use Rattle.mg_engine_changes.specs.PlainMade.{all_first, plain_made}
 use Rattle.mg_engine_changes.specs.RowsKnown.{none_free, rows_may}
-use Rattle.mg_engine_changes.specs.StandMade.{HasNoIndexes, stand_at}
+use Rattle.mg_engine_changes.specs.StandMade.{stand_at}
 use Rattle.mg_engine_changes.specs.StandMadeLaws.{left_pages_are_there}
 use Rattle.mg_engine_changes.specs.WalksMade.{walks_made}
 
@@ -255,11 +255,6 @@ module _ (one : RowsAreOne packed_coding) (begins : OpeningsBegin) (behind_keeps
 
   -- ---- the batch
 
-  bare : (chosen : ℕ → Bool) (a : Layout) (r : Reading)
-      → IsSoundBy packed_form before.geometry.size (left_state chosen s.state) (shown before.dirty i) a r
-      → HasNoIndexes a
-  bare chosen a r sound x stands_ = (plain chosen a r sound x stands_).no_index
-
   read_batch : (chosen : ℕ → Bool) → chosen t.0 ≡ true → ReadsBatch packed_form before.geometry.size
       (left_state (without t.0 chosen) s.state) (shown before.dirty i) (viewed before i batch)
   read_batch chosen on = reads_batch packed_form one no_sequence m before after i j batch asked session o h t s.state name
@@ -272,7 +267,7 @@ module _ (one : RowsAreOne packed_coding) (begins : OpeningsBegin) (behind_keeps
       (stand_at name shape fills.page)
   there chosen on a c r rc sound after_ = left_pages_are_there packed_form no_sequence apart_law before.geometry.size
       (left_state chosen s.state) (left_state (without t.0 chosen) s.state) (shown before.dirty i) (viewed before i batch)
-      a c r rc name shape fills.page sound after_ (bare chosen a r sound)
+      a c r rc name shape fills.page sound after_
       (batch_leaves packed_form one no_sequence behind_keeps m before after i j batch asked session o h t s.state name
       shape was.changes fills active may every (left_state chosen s.state) (left_state (without t.0 chosen) s.state) a r
       sound (read_batch chosen on))

@@ -35,7 +35,7 @@ use Rattle.mg_model.specs.ReadLaws.{same_name_itself}
 use Rattle.mg_records.specs.Reading.{shape_seen}
 use Rattle.mg_records.specs.Writing.{IsNewShape, new_table, rows_made}
 use Rattle.mg_grown_catalogs.specs.Grown.{EachMakes}
-use Rattle.mg_image.specs.Catalog.{IsSameTable, StaysAmong, catalog_table}
+use Rattle.mg_image.specs.Catalog.{IsSameTable, catalog_table}
 use Rattle.mg_image.specs.Form.{Pages, packed_form}
 use Rattle.mg_image.specs.Tables.{Layout, Stand, stands_of}
 use Rattle.mg_image_overlays.specs.TableOwners.{IsOneOf}
@@ -69,6 +69,7 @@ use Rattle.mg_engine_steps.specs.Standing.{HasFirstPage, IsSeenAs, Remembers, Re
 use Rattle.mg_engine_meaning.specs.FrameLaws.{kept_all}
 use Rattle.mg_engine_meaning.specs.Frames.{WorksStay}
 use Rattle.mg_engine_meaning.specs.PlainTables.{HasPlainTables}
+use Rattle.mg_engine_changes.specs.PlainMade.{new_one, old_one}
 use Rattle.mg_engine_meaning.specs.Standings.{AreOfKept, AreTold, HasTips, Numbers, SeesAlike, ShowsIt, StandsFor, StandsWhile, Tables, asked_in, mode_kept, session_kept, sessions_in, standing_of, undo_kept, written_kept}
 use Rattle.mg_engine_meaning.specs.LawfulBases.{BasesAreLawful}
 use Rattle.mg_engine_changes.specs.MadePages.{MadePages}
@@ -77,32 +78,6 @@ use Rattle.mg_engine_changes.specs.StandMade.{stand_at}
 use Rattle.mg_engine_changes.specs.WorksMade.{keys_kept, kept_told, made_given, made_keys, made_stay, made_undo, made_with, rows_as_keys}
 
 -- ---- tables with one more
-
-stays_new : (s : Stand) (ss : List Stand) → StaysAmong (map (λ y. y.table) (stands_with s ss)) s.table
-stays_new s [] = inl (record { name = refl; shape = refl; pointer = refl })
-stays_new s (u ∷ us) = at (slice_cmp nat_cmp s.table.name u.table.name) (stays_new s us)
-  where
-    itself : IsSameTable s.table s.table
-    itself = record { name = refl; shape = refl; pointer = refl }
-
-    at : (o : Ordering) → StaysAmong (map (λ y. y.table) (stands_with s us)) s.table
-        → StaysAmong (map (λ y. y.table) (by_order o (s ∷ u ∷ us) (s ∷ u ∷ us) (u ∷ stands_with s us))) s.table
-    at Less more = inl itself
-    at Equal more = inl itself
-    at Greater more = inr more
-
-stays_old : (s : Stand) (ss : List Stand) (x : Table) → StaysAmong (map (λ y. y.table) ss) x
-    → StaysAmong (map (λ y. y.table) (stands_with s ss)) x
-stays_old s [] x is = absurd is
-stays_old s (u ∷ us) x is = at (slice_cmp nat_cmp s.table.name u.table.name) is (stays_old s us x)
-  where
-    at : (o : Ordering) → StaysAmong (map (λ y. y.table) (u ∷ us)) x
-        → (StaysAmong (map (λ y. y.table) us) x → StaysAmong (map (λ y. y.table) (stands_with s us)) x)
-        → StaysAmong (map (λ y. y.table) (by_order o (s ∷ u ∷ us) (s ∷ u ∷ us) (u ∷ stands_with s us))) x
-    at Less there more = inr there
-    at Equal there more = inr there
-    at Greater (inl same) more = inl same
-    at Greater (inr deeper) more = inr (more deeper)
 
 first_old : (s : Stand) (ss : List Stand) (name : List ℕ) (page : ℕ) → HasFirstPage ss name page
     → HasFirstPage (stands_with s ss) name page
@@ -407,18 +382,18 @@ module _ (one_way : StandsOneWay packed_form) (begins : OpeningsBegin) (seen_law
       table)
 
   found_seen : (u : ℕ) → s.state u ≡ Active → (n : List ℕ) (x : Table) → tables_now u n ≡ Some x
-      → StaysAmong (map (λ stand. stand.table) layout_now.tables) x
+      → IsOneOf (map (λ stand. stand.table) layout_now.tables) x
   found_seen u also n x is = at ((u == t.0) && same_name n name) refl
     where
       at : (b : Bool) → ((u == t.0) && same_name n name) ≡ b
-          → StaysAmong (map (λ stand. stand.table) layout_now.tables) x
+          → IsOneOf (map (λ stand. stand.table) layout_now.tables) x
       at true on =
           let both : Some (table_at name shape page) ≡ Some x = sym (ap (λ (b : Bool).
           if b then Some (table_at name shape page) else stands.tables u n) on) ∙ is in
           let same : table_at name shape page ≡ x = cc in
-          subst (StaysAmong (map (λ stand. stand.table) layout_now.tables)) same
-          (stays_new (stand_at name shape page) shows.stands.shows.layout.tables)
-      at false off = stays_old (stand_at name shape page) shows.stands.shows.layout.tables x
+          subst (IsOneOf (map (λ stand. stand.table) layout_now.tables)) same
+          (new_one (stand_at name shape page) shows.stands.shows.layout.tables)
+      at false off = old_one (stand_at name shape page) shows.stands.shows.layout.tables x
           ((shows.stands.shows.tables u also).seen n x (sym (ap (λ (b : Bool).
           if b then Some (table_at name shape page) else stands.tables u n) off) ∙ is))
 

@@ -28,6 +28,7 @@ use Rattle.mg_model.specs.Legal.{is_limbo}
 use Rattle.mg_model.specs.Openings.{everyone}
 use Rattle.mg_overlays.specs.Overlays.{left_state}
 use Rattle.mg_image_overlays.specs.OneTable.{one_standing, stands_in}
+use Rattle.mg_engine_meaning.specs.PlainLaws.{plain_tables_from}
 use Rattle.mg_engine_meaning.specs.PlainTables.{HasPlainTables}
 use Rattle.mg_noted.specs.ChoiceTables.{tables_are}
 use Rattle.mg_engine_changes.specs.Plain.{WritesKeepPlain}
@@ -109,25 +110,34 @@ module _ (one : RowsAreOne packed_coding) (size : ℕ) (o : Opening) (h : Entrie
       same = rows_stay f g (committed_with f who) (committed_with g who) r reads.reading cat
           (first.names.lawful who).rows now_.rows refl to back (first.names.lawful who).are_rows now_.are_rows
 
+  -- a table that stands then stood before
+  module _ (chosen : ℕ → Bool) (c : Layout) (s : Reading)
+      (second : IsSoundBy packed_form size (left_state chosen state) later c s) where
+    tables : map (λ x. x.table) c.tables ≡ map (λ x. x.table) (kept chosen).layout.tables
+    tables = tables_are one size state later reads.layout reads.reading reads.sound chosen c s second
+        ∙ (sym (named_same (λ u. chosen u || is_limbo (state u)))
+        ∙ sym (tables_are one size state pages a r first chosen (kept chosen).layout (kept chosen).reading
+        (kept chosen).sound))
+
+    catalogs : c.catalog.table ≡ (kept chosen).layout.catalog.table
+    catalogs = second.catalog ∙ (sym reads.sound.catalog ∙ (reads.grown.catalog
+        ∙ (first.catalog ∙ sym (kept chosen).sound.catalog)))
+
+    stood : (its : Table) → (c.catalog.table ≡ its) ⊎ IsOneOf (map (λ stand. stand.table) c.tables) its
+        → IsTableOf (kept chosen).layout its
+    stood its (inl same) = subst (IsTableOf (kept chosen).layout) (sym catalogs ∙ same)
+        (catalog_stands (kept chosen).layout)
+    stood its (inr is) =
+        stands_in (kept chosen).layout its (inr (subst (λ (ts : List Table). IsOneOf ts its) tables is))
+
   pub plain_after : HasPlainTables size state later
-  plain_after chosen c s second its there = plain chosen (kept chosen).layout (kept chosen).reading (kept chosen).sound
-      its (at (one_standing c its there))
-    where
-      tables : map (λ x. x.table) c.tables ≡ map (λ x. x.table) (kept chosen).layout.tables
-      tables = tables_are one size state later reads.layout reads.reading reads.sound chosen c s second
-          ∙ (sym (named_same (λ u. chosen u || is_limbo (state u)))
-          ∙ sym (tables_are one size state pages a r first chosen (kept chosen).layout (kept chosen).reading
-          (kept chosen).sound))
-
-      catalogs : c.catalog.table ≡ (kept chosen).layout.catalog.table
-      catalogs = second.catalog ∙ (sym reads.sound.catalog ∙ (reads.grown.catalog
-          ∙ (first.catalog ∙ sym (kept chosen).sound.catalog)))
-
-      at : (c.catalog.table ≡ its) ⊎ IsOneOf (map (λ stand. stand.table) c.tables) its
-          → IsTableOf (kept chosen).layout its
-      at (inl same) = subst (IsTableOf (kept chosen).layout) (sym catalogs ∙ same)
-          (catalog_stands (kept chosen).layout)
-      at (inr is) = stands_in (kept chosen).layout its (inr (subst (λ (ts : List Table). IsOneOf ts its) tables is))
+  plain_after = plain_tables_from size state state pages later plain (λ chosen c s second its there. record {
+    chosen = chosen;
+    before = (kept chosen).layout;
+    reading = (kept chosen).reading;
+    sound = (kept chosen).sound;
+    there = stood chosen c s second its (one_standing c its there);
+  })
 
 pub writes_keep_plain : RowsAreOne packed_coding → WritesKeepPlain
 writes_keep_plain one size o h state pages later layout r rec es table first reads of other kept plain =

@@ -3,7 +3,6 @@ use Rattle.std.specs.Prelude.{◌≡◌, ◌≢◌, ◌<◌, ℕ, true, false, L
 use Rattle.mg_base.specs.declared.geometry.TheConstants.{GREATEST_LIMIT}
 use Rattle.mg_base.specs.declared.transaction.TxState.{TxState}
 use Rattle.mg_value.specs.declared.shape.Shape.{Shape}
-use Rattle.mg_model.specs.declared.table.Table.{Table}
 use Rattle.mg_pointer.specs.PointerPage.{new_pointer_page}
 use Rattle.mg_image.specs.Form.{Form, Pages}
 use Rattle.mg_image.specs.Inventory.{is_used, next_of}
@@ -14,7 +13,6 @@ use Rattle.mg_ties.specs.Others.{IsLeft, IsOther}
 use Rattle.mg_engine_changes.specs.JoinedBatch.{HasPages}
 use Rattle.mg_engine_steps.specs.ListShows.{TipsStay}
 use Rattle.mg_table_batch.specs.Filling.{table_at}
-use Rattle.mg_image_overlays.specs.Growing.{IsTableOf}
 
 -- a new table stands with its first pointer page alone
 abbrev pub stand_at : List ℕ → Shape → ℕ → Stand
@@ -36,13 +34,9 @@ pub record LeavesPages (size : ℕ) (old new : Pages) (owner page : ℕ) : Type 
   pub made : new page ≡ new_pointer_page size page page 0
   pub other : IsOther size new owner page
 
--- no table of a layout has an index
-abbrev pub HasNoIndexes : Layout → Type 0
-HasNoIndexes layout = (its : Table) → IsTableOf layout its → its.indexes ≡ []
-
 -- so the pages of all tables are there
 abbrev pub LeftPagesAreThere : Form → Type 0
 LeftPagesAreThere form = (size : ℕ) (state later : ℕ → TxState) (old new : Pages) (a c : Layout) (r rc : Reading)
     (name : List ℕ) (shape : Shape) (page : ℕ) → IsSoundBy form size state old a r → IsSoundBy form size later new c rc
-    → HasNoIndexes a → LeavesPages size old new a.catalog.table.pointer.0 page
+    → LeavesPages size old new a.catalog.table.pointer.0 page
     → HasPages form size old new a c (stand_at name shape page)

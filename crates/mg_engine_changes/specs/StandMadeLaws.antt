@@ -37,24 +37,12 @@ use Rattle.mg_engine_changes.specs.JoinedBatch.{HasPages}
 use Rattle.mg_engine_changes.specs.JoinedSound.{each_stand_with}
 use Rattle.mg_engine_steps.specs.ListShows.{TipsStay}
 use Rattle.mg_image_overlays.specs.OneTable.{stands_in}
-use Rattle.mg_engine_changes.specs.StandMade.{HasNoIndexes, LeavesPages, LeftPagesAreThere, stand_at}
+use Rattle.mg_engine_changes.specs.StandMade.{LeavesPages, LeftPagesAreThere, stand_at}
+use Rattle.mg_image_overlays.specs.Trees.{HasRoots, found_still, trees_still}
 
 -- ---- lists of stands
 
--- of each table something holds
-each_table : (P : Table → Type 0) (ss : List Stand) → ((x : Table) → IsOneOf (map (λ s. s.table) ss) x → P x)
-    → EachStand (λ s. P s.table) ss
-each_table P [] gives = tt
-each_table P (s ∷ ss) gives = (gives s.table (inl refl), each_table P ss (λ x is. gives x (inr is)))
-
--- of each stand something holds, where it does by what is known of all
-each_by : (P Q R : Stand → Type 0) → ((s : Stand) → P s → Q s → R s) → (ss : List Stand) → EachStand P ss
-    → EachStand Q ss → EachStand R ss
-each_by P Q R gives [] first second = tt
-each_by P Q R gives (s ∷ ss) first second =
-    (gives s first.0 second.0, each_by P Q R gives ss first.1 second.1)
-
--- and where it does by its pages
+-- of each stand something holds, where it does by its pages
 each_pages : (P Q : Stand → Type 0) (ss all : List Stand) → ((m : ℕ) → Has (flat_map pages_of ss) m
     → Has (flat_map pages_of all) m) → ((s : Stand) → ((m : ℕ) → Has (pages_of s) m → Has (flat_map pages_of all) m)
     → P s → Q s) → EachStand P ss → EachStand Q ss
@@ -63,17 +51,6 @@ each_pages P Q (s ∷ ss) all within gives each = (
   gives s (λ m is. within m (has_front (pages_of s) (flat_map pages_of ss) m is)) each.0,
   each_pages P Q ss all (λ m is. within m (has_back (pages_of s) (flat_map pages_of ss) m is)) gives each.1,
 )
-
--- a page of a table, where something holds of each table
-table_holds : (P : Table → Type 0) (ss : List Stand) → EachStand (λ s. P s.table) ss → (n : ℕ) (table : Table)
-    → page_table ss n ≡ Some table → P table
-table_holds P [] each n table is = absurd cc
-table_holds P (s ∷ ss) each n table is = at (has s.data_pages n) is (table_holds P ss each.1 n table)
-  where
-    at : (b : Bool) → (if b then Some s.table else page_table ss n) ≡ Some table
-        → (page_table ss n ≡ Some table → P table) → P table
-    at true some more = let same : s.table ≡ table = cc in subst P same each.0
-    at false some more = more some
 
 each_once : (ss : List Stand) → IsOnce (flat_map pages_of ss) → EachStand (λ s. IsOnce (pages_of s)) ss
 each_once [] once = tt
@@ -151,16 +128,36 @@ firsts_with s (u ∷ us) once none =
 
 -- ---- trees
 
-no_trees : (size : ℕ) (pages later : Pages) (owner : ℕ) (indexes : List Index) (trees : List (List (List ℕ)))
-    → indexes ≡ [] → AreTrees size pages owner indexes trees → AreTrees size later owner indexes trees
-no_trees size pages later owner [] [] none are = tt
-no_trees size pages later owner [] (levels ∷ trees) none are = absurd are
-no_trees size pages later owner (index ∷ indexes) trees none are = absurd cc
+roots_of : (size : ℕ) (pages : Pages) (owner : ℕ) (indexes : List Index) (trees : List (List (List ℕ)))
+    → AreTrees size pages owner indexes trees → HasRoots indexes
+roots_of size pages owner [] trees are = tt
+roots_of size pages owner (index ∷ indexes) [] are = absurd are
+roots_of size pages owner (index ∷ indexes) (levels ∷ trees) are =
+    (are.0.rooted, roots_of size pages owner indexes trees are.1)
 
-none_found : (pages : Pages) (indexes : List Index) (p : RecId) (row : Row) → indexes ≡ []
-    → IsFoundIn pages indexes p row
-none_found pages [] p row none = tt
-none_found pages (index ∷ indexes) p row none = absurd cc
+-- where the pages of tables stay, what is found in their indexes is found still
+found_in : (in_primary : Bool) (size : ℕ) (old new : Pages)
+    → ((m : ℕ) → is_used size old m ≡ true → is_used size new m ≡ true)
+    → (ss : List Stand) → EachStand (HasTablePages in_primary size old) ss
+    → ((m : ℕ) → Has (flat_map pages_of ss) m → new m ≡ old m) → (n : ℕ) (table : Table) (p : RecId) (row : Row)
+    → page_table ss n ≡ Some table → IsFoundIn old table.indexes p row → IsFoundIn new table.indexes p row
+found_in in_primary size old new used [] each same n table p row is found = absurd cc
+found_in in_primary size old new used (s ∷ ss) each same n table p row is found = at (has s.data_pages n) is
+    (λ more. found_in in_primary size old new used ss each.1
+    (λ m there. same m (has_back (pages_of s) (flat_map pages_of ss) m there)) n table p row more found)
+  where
+    here : IsFoundIn old s.table.indexes p row → IsFoundIn new s.table.indexes p row
+    here = found_still size old new s.table.pointer.0 used s.table.indexes s.trees
+        (roots_of size old s.table.pointer.0 s.table.indexes s.trees each.0.trees)
+        (λ m there. same m (has_front (pages_of s) (flat_map pages_of ss) m
+        (has_back (s.pointers ++ s.data_pages) (tree_pages s.trees) m there))) each.0.trees p row
+
+    at : (b : Bool) → (if b then Some s.table else page_table ss n) ≡ Some table
+        → (page_table ss n ≡ Some table → IsFoundIn new table.indexes p row) → IsFoundIn new table.indexes p row
+    at true some more = let one : s.table ≡ table = cc in
+        subst (λ (x : Table). IsFoundIn new x.indexes p row) one
+        (here (subst (λ (x : Table). IsFoundIn old x.indexes p row) (sym one) found))
+    at false some more = more some
 
 -- ---- pages of transactions
 
@@ -177,7 +174,7 @@ tips_same size old new stay (suc n) below =
 module _ (form : Form) (none : HasNoSequences form) (apart_law : OwnersKeepStandsApart form) (size : ℕ)
     (state later : ℕ → TxState) (old new : Pages) (a c : Layout) (r rc : Reading) (name : List ℕ) (shape : Shape)
     (page : ℕ) (sound : IsSoundBy form size state old a r) (after : IsSoundBy form size later new c rc)
-    (bare : HasNoIndexes a) (leaves : LeavesPages size old new a.catalog.table.pointer.0 page) where
+    (leaves : LeavesPages size old new a.catalog.table.pointer.0 page) where
   abbrev owner : ℕ
   owner = a.catalog.table.pointer.0
 
@@ -188,10 +185,6 @@ module _ (form : Form) (none : HasNoSequences form) (apart_law : OwnersKeepStand
   cat_is : c.catalog.table ≡ a.catalog.table
   cat_is = after.catalog ∙ (ap (λ (bytes : List ℕ). catalog_table (header_in bytes).catalog.0) leaves.header
       ∙ sym sound.catalog)
-
-  -- no table has an index
-  tables_bare : EachStand (λ s. s.table.indexes ≡ []) a.tables
-  tables_bare = each_table (λ x. x.indexes ≡ []) a.tables (λ x is. bare x (stands_in a x (inr is)))
 
   -- ---- the tables that were there
 
@@ -250,22 +243,19 @@ module _ (form : Form) (none : HasNoSequences form) (apart_law : OwnersKeepStand
   table_page m is = leaves.left m (other_of a.tables other_tables m is)
 
   tables_there : EachStand (HasTablePages form.in_primary size new) a.tables
-  tables_there = each_by (HasTablePages form.in_primary size old)
-      (λ s. ((m : ℕ) → Has (pages_of s) m → new m ≡ old m) × (s.table.indexes ≡ []))
-      (HasTablePages form.in_primary size new) kept a.tables sound.tables.1
-      (each_pages (λ s. s.table.indexes ≡ [])
-      (λ s. ((m : ℕ) → Has (pages_of s) m → new m ≡ old m) × (s.table.indexes ≡ [])) a.tables a.tables (λ m is. is)
-      (λ s within no_index. ((λ m is. (table_page m (within m is)).same), no_index)) tables_bare)
+  tables_there = each_pages (HasTablePages form.in_primary size old) (HasTablePages form.in_primary size new) a.tables
+      a.tables (λ m is. is) (λ s within its. kept s its (λ m is. (table_page m (within m is)).same)) sound.tables.1
     where
       kept : (s : Stand) → HasTablePages form.in_primary size old s
-          → ((m : ℕ) → Has (pages_of s) m → new m ≡ old m) × (s.table.indexes ≡ [])
-          → HasTablePages form.in_primary size new s
+          → ((m : ℕ) → Has (pages_of s) m → new m ≡ old m) → HasTablePages form.in_primary size new s
       kept s its same = table_pages_kept form.in_primary size old new s (record {
-        pointers = λ n is. same.0 n (has_front (s.pointers ++ s.data_pages) (tree_pages s.trees) n
+        pointers = λ n is. same n (has_front (s.pointers ++ s.data_pages) (tree_pages s.trees) n
             (has_front s.pointers s.data_pages n is));
-        data_pages = λ n is. same.0 n (data_there s n is);
+        data_pages = λ n is. same n (data_there s n is);
         used = leaves.used;
-        trees = no_trees size old new s.table.pointer.0 s.table.indexes s.trees same.1 its.trees;
+        trees = trees_still size old new s.table.pointer.0 leaves.used s.table.indexes s.trees
+            (roots_of size old s.table.pointer.0 s.table.indexes s.trees its.trees)
+            (λ n is. same n (has_back (s.pointers ++ s.data_pages) (tree_pages s.trees) n is)) its.trees;
       }) its
 
   -- ---- the new one
@@ -365,12 +355,6 @@ module _ (form : Form) (none : HasNoSequences form) (apart_law : OwnersKeepStand
           (data_there c.catalog n (has_it c.catalog.data_pages n on))).told
           ∙ ap (λ (x : Table). x.pointer.0) cat_is))
 
-  all_bare : EachStand (λ s. s.table.indexes ≡ []) (stands_of (layout_with a c stand))
-  all_bare = (
-    ap (λ (x : Table). x.indexes) after.catalog,
-    each_stand_with (λ s. s.table.indexes ≡ []) stand a.tables refl tables_bare,
-  )
-
   pub pages_are_there : HasPages form size old new a c (stand_at name shape page)
   pages_are_there = record {
     tables_pages = tables_there;
@@ -379,10 +363,10 @@ module _ (form : Form) (none : HasNoSequences form) (apart_law : OwnersKeepStand
     once = whole_once;
     left = λ n table is. (table_page n (page_there a.tables n table is)).same;
     apart = apart_from_catalog;
-    found = λ p table row is. none_found new table.indexes p row
-        (table_holds (λ x. x.indexes ≡ []) (stands_of (layout_with a c stand)) all_bare p.page.0 table is);
+    found = λ p table row is. found_in form.in_primary size old new leaves.used a.tables sound.tables.1
+        (λ m there. (table_page m there).same) p.page.0 table p row is;
   }
 
 pub left_pages_are_there : (form : Form) → HasNoSequences form → OwnersKeepStandsApart form → LeftPagesAreThere form
-left_pages_are_there form none apart size state later old new a c r rc name shape page sound after bare leaves =
-    pages_are_there form none apart size state later old new a c r rc name shape page sound after bare leaves
+left_pages_are_there form none apart size state later old new a c r rc name shape page sound after leaves =
+    pages_are_there form none apart size state later old new a c r rc name shape page sound after leaves

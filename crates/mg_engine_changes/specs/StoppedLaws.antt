@@ -39,6 +39,7 @@ use Rattle.mg_engine_meaning.specs.KeptLaws.{kept_without_work}
 use Rattle.mg_engine_meaning.specs.LawfulLaws.{memory_of, quiet_count, quiet_event}
 use Rattle.mg_engine_meaning.specs.Meaning.{AreNext, Places, means, place_at}
 use Rattle.mg_engine_meaning.specs.MemoryCallLaws.{active_answer, nothing_follows}
+use Rattle.mg_engine_meaning.specs.PlainLaws.{HasStood, plain_tables_from}
 use Rattle.mg_engine_meaning.specs.PlainTables.{HasPlainTables}
 use Rattle.mg_engine_meaning.specs.Standings.{HasTips, ShowsIt, StandsFor, StandsWhile, asked_in, asked_kept, session_kept, sessions_in, standing_of}
 use Rattle.mg_engine_changes.specs.MadeLaws.{StoreOn, on_then, read_on}
@@ -94,6 +95,8 @@ use Rattle.mg_undo.specs.Undo.{State as Undo}
 use Rattle.mg_waits.specs.Waits.{NowWaits, edges_in}
 use Rattle.mg_works.specs.Works.{AreApart, Working, unasked, with_work, without_work}
 use Rattle.mg_works.specs.WorksLaws.{with_others, without_others}
+use Rattle.mg_image_overlays.specs.Growing.{IsTableOf}
+use Rattle.mg_image.specs.Records.{Reading}
 
 -- ---- works
 
@@ -283,6 +286,10 @@ module _ {D P : Type 0} (m : Meaning D) (places : Places P) (known : KnownOfBack
           ap session_kept (without_others old.works t.0 u ne),
         )
 
+    -- the pages of transactions, and plain tables, after the keys
+    lists_mid : KeepsLists size s (shown old.store.dirty shows.image) (shown some.mid.store.dirty some.taken.image)
+    lists_mid = keeps_lists m known old begun stopped t point undo refusal core has_begun stops o h stands
+
     pub all : Stands packed_form size o (rolling t.0 ∷ entry (back_event t point) (No refusal) ∷ h) s_now
         (Some (shown stopped.store.dirty image))
         × LastsOn m packed_form o (rolling t.0 ∷ entry (back_event t point) (No refusal) ∷ h) stopped.store
@@ -292,39 +299,50 @@ module _ {D P : Type 0} (m : Meaning D) (places : Places P) (known : KnownOfBack
         shows.image image (asked_in (with_work t.0 unasked old.works)) (asked_in (without_work t.0 old.works))
         (sessions_in old.works) (sessions_in (without_work t.0 old.works)) begins_so stands.grows lawful ends_lawful
         passing no_failure gives asks (stops_reading m known old begun stopped t point undo refusal core has_begun stops o h stands stopped.store keeps) its_end
+        (lists_mid.plain shows.plain_tables).agree
 
     -- ---- what it stands for
 
     same_shown : shown stopped.store.dirty image ≡ shown stops.at.store.dirty image
     same_shown = ap (λ (d : DirtyPages). shown d image) keeps.dirty
 
-    -- the pages of transactions, and plain tables, after the keys and after the rows
-    lists_mid : KeepsLists size s (shown old.store.dirty shows.image) (shown some.mid.store.dirty some.taken.image)
-    lists_mid = keeps_lists m known old begun stopped t point undo refusal core has_begun stops o h stands
-
+    -- the pages of transactions after the rows
     kept_tips : KeepsTips size (shown some.mid.store.dirty some.taken.image) (shown stopped.store.dirty image)
     kept_tips = subst (λ (x : Pages). KeepsTips size (shown some.mid.store.dirty some.taken.image) x) (sym same_shown)
         some.lost.tips
 
+    dead_alike : (chosen : ℕ → Bool) → left_state (without t.0 chosen) (said old.list)
+        ≡ left_state chosen (said new.list)
+    dead_alike chosen = fun_ext (left_same t.0 (said old.list) (said new.list) ends_now.here ends_now.others
+        has_begun.continues.1 chosen)
+
     -- with the transaction dead each table that stands then stood after the keys
     plain_now : HasPlainTables size (said new.list) (shown stopped.store.dirty image)
-    plain_now chosen layout q sound its of = lists_mid.plain shows.plain_tables (without t.0 chosen) stood.layout
-        stood.reading stood.sound its stood.of
+    plain_now = plain_tables_from size (said old.list) (said new.list) (shown some.mid.store.dirty some.taken.image)
+        (shown stopped.store.dirty image) (lists_mid.plain shows.plain_tables) stood
       where
-        off : without t.0 chosen t.0 ≡ false
-        off = rw (eq-eqb t.0 t.0 refl) refl
+        off : (chosen : ℕ → Bool) → without t.0 chosen t.0 ≡ false
+        off chosen = rw (eq-eqb t.0 t.0 refl) refl
 
-        dead_alike : left_state (without t.0 chosen) (said old.list) ≡ left_state chosen (said new.list)
-        dead_alike = fun_ext (left_same t.0 (said old.list) (said new.list) ends_now.here ends_now.others
-            has_begun.continues.1 chosen)
-
-        stood : StoodUnder size (left_state (without t.0 chosen) (said old.list))
-            (shown some.mid.store.dirty some.taken.image) its
-        stood = some.lost.stood (without t.0 chosen) off layout q
-            (subst (λ (x : ℕ → TxState). IsSoundBy packed_form size x (shown stops.at.store.dirty image) layout q)
-            (sym dead_alike)
-            (subst (λ (x : Pages). IsSoundBy packed_form size (left_state chosen (said new.list)) x layout q) same_shown
-            sound)) its of
+        stood : (chosen : ℕ → Bool) (layout : Layout) (q : Reading)
+            → IsSoundBy packed_form size (left_state chosen (said new.list)) (shown stopped.store.dirty image) layout q
+            → (its : Table) → IsTableOf layout its
+            → HasStood size (said old.list) (shown some.mid.store.dirty some.taken.image) its
+        stood chosen layout q sound its of = record {
+          chosen = without t.0 chosen;
+          before = it.layout;
+          reading = it.reading;
+          sound = it.sound;
+          there = it.of;
+        }
+          where
+            it : StoodUnder size (left_state (without t.0 chosen) (said old.list))
+                (shown some.mid.store.dirty some.taken.image) its
+            it = some.lost.stood (without t.0 chosen) (off chosen) layout q
+                (subst (λ (x : ℕ → TxState). IsSoundBy packed_form size x (shown stops.at.store.dirty image) layout q)
+                (sym (dead_alike chosen))
+                (subst (λ (x : Pages). IsSoundBy packed_form size (left_state chosen (said new.list)) x layout q)
+                same_shown sound)) its of
 
     -- directories are complete after the keys, also with the transaction dead
     noted_mid : HasDirectories size (said new.list) (shown some.mid.store.dirty some.taken.image) old.directories

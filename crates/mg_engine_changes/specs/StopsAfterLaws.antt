@@ -119,7 +119,7 @@ module _ {D P : Type 0} (m : Meaning D) (known : KnownOfBacks D P m) (old begun 
         size = ap (λ (g : Geometry). g.size) keeps.geometry ∙ some.lost.size_is;
       }
 
-      pub stops_reading : StopsReading m o h e point t.0 s old.store ready shows.image some.image
+      abbrev pub stops_reading : StopsReading m o h e point t.0 s old.store ready shows.image some.image
           (asked_in (with_work t.0 unasked old.works)) (sessions_in old.works) begins_so
       stops_reading = record {
         keys = some.keys;
