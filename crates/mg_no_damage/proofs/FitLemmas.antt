@@ -1,7 +1,8 @@
 -- A version that a write stores in a table of a sound image fits a page.
 use Rattle.std.proofs.Common.{◌≡◌, ◌+◌, ◌/◌, ◌≤◌, inl, inr, ℕ, Bool, true, false, List, [], ◌∷◌, length, refl, subst, arith}
-use Rattle.mg_image.specs.Catalog.{FitsPages, StaysAmong}
+use Rattle.mg_image.specs.Catalog.{FitsPages}
 use Rattle.mg_image.specs.RecordRules.{columns_for}
+use Rattle.mg_image_overlays.specs.TableOwners.{IsOneOf}
 use Rattle.mg_model.specs.CatalogRules.{EachTable}
 use Rattle.mg_model.specs.declared.table.Table.{Table}
 use Rattle.mg_records.specs.declared.write.Write.{Write}
@@ -11,12 +12,12 @@ use Rattle.mg_value.specs.declared.shape.Shape.{Shape}
 use Rattle.mg_version.specs.declared.cell.Version.{Version}
 use Rattle.mg_no_damage.proofs.PackedLemmas.{erased_len, packed_short, row_len}
 
--- a table that is one of these, but for its indexes, has rows of half a page
+-- a table that is one of these has rows of half a page
 pub rows_fit : (size : ℕ) (tables : List Table) (table : Table) → EachTable (FitsPages size) tables
-    → StaysAmong tables table → row_len_of table.shape.columns ≤ size / 2
-rows_fit size [] table fit stays = absurd stays
+    → IsOneOf tables table → row_len_of table.shape.columns ≤ size / 2
+rows_fit size [] table fit is = absurd is
 rows_fit size (t ∷ ts) table fit (inl same) =
-    subst (λ (s : Shape). row_len_of s.columns ≤ size / 2) same.shape fit.0.rows
+    subst (λ (t : Table). row_len_of t.shape.columns ≤ size / 2) same fit.0.rows
 rows_fit size (t ∷ ts) table fit (inr later) = rows_fit size ts table fit.1 later
 
 columns_len : (table : Table) (deleted : Bool) → row_len_of (columns_for table deleted) ≡ row_len_of table.shape.columns

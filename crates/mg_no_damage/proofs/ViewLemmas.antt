@@ -52,7 +52,7 @@ use Rattle.mg_no_damage.specs.CoreReads.{ShowsTable}
 use Rattle.mg_engine_steps.specs.Standing.{Standing}
 use Rattle.mg_engine_steps.specs.Known.{IsShown, KnowsPages, seen_is_shown}
 use Rattle.mg_engine_steps.specs.Found.{FoundTablesStand}
-use Rattle.mg_engine_steps.specs.Lawful.{HasNoIndexes, SeenRowsAreLawful}
+use Rattle.mg_engine_steps.specs.Lawful.{SeenRowsAreLawful}
 use Rattle.mg_engine_steps.specs.SeenRows.{named_is}
 use Rattle.mg_engine_meaning.specs.Standings.{ShowsIt, StandsFor, standing_of}
 use Rattle.mg_engine_meaning.specs.StepLaws.{shows_of}
@@ -111,13 +111,10 @@ module _ {D : Type 0} (m : Meaning D) (records : SoundRecordsAreLawful) (stand :
           (catalog_there records stand m old o h s shows stands.tells core)
 
   -- its rows that are seen are lawful
-  no_index : HasNoIndexes layout
-  no_index its of = (shows.plain_tables everyone layout shows.stands.shows.reading shows.stands.shows.sound its of).no_index
-
   rows_lawful : (rows : List Row) → AreRowsSeen s.state s.live t pages old.catalog rows → (at : ℕ)
       → IsFirstBad rows (BadTable at) → ⊥
   rows_lawful rows seen at bad = bad.1 (lawful size o h s pages knows t rows (begin o shows.stands.opening)
-      shows.stands.legal stands.grows active (stands.bases t.0) no_index
+      shows.stands.legal stands.grows active (stands.bases t.0)
       (subst (λ (c : Table). AreRowsSeen s.state s.live t pages c rows) catalog_is seen) at bad.0)
 
   -- and a table that they name may be given
@@ -139,7 +136,7 @@ module _ {D : Type 0} (m : Meaning D) (records : SoundRecordsAreLawful) (stand :
 
       there : IsShown layout table
       there = seen_is_shown layout table (found size o h s pages knows t name table (begin o shows.stands.opening)
-          shows.stands.legal stands.grows active seen)
+          shows.stands.legal stands.grows active (stands.bases t.0) seen)
 
       has : HasTablePages packed_form.in_primary size pages there.stands.stand
       has = its_pages packed_form size (left_state everyone s.state) pages layout shows.stands.shows.reading

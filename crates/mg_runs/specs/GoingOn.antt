@@ -5,7 +5,7 @@ use Rattle.mg_base.specs.Geometry.{is_page_size}
 use Rattle.mg_base.specs.Image.{Image, page_at}
 use Rattle.mg_engine_meaning.specs.Closings.{GoesOnFrom}
 use Rattle.mg_engine_meaning.specs.Openings.{IsSettledOn}
-use Rattle.mg_engine_meaning.specs.PlainTables.{HasPlainTables}
+use Rattle.mg_engine_meaning.specs.PlainTables.{EachIsPlain}
 use Rattle.mg_format.specs.Format.{IsUnmadeImage}
 use Rattle.mg_image.specs.Form.{Pages}
 use Rattle.mg_image.specs.Inventory.{state_at}
@@ -25,7 +25,7 @@ MayPromise size limit image free =
 
 -- the tables of an image are plain, which an opening wants
 abbrev pub ArePlain : ℕ → Image → Type 0
-ArePlain size image = HasPlainTables size (state_at size (page_at size image)) (page_at size image)
+ArePlain size image = EachIsPlain size (state_at size (page_at size image)) (page_at size image)
 
 -- A history can begin with an image, and goes on from another one's k-th durable event, whatever page limit it is opened
 -- with, and however many of its free pages are promised. That its tables are plain is known of what a run has left whose
