@@ -382,7 +382,7 @@ module _ {D : Type 0} (m : Meaning D) (openings : OpeningsBegin) (unask : Unaski
   stands_now : StandsFor m now o (e ∷ h)
   stands_now = record {
     tells = taken.knows.tells.told;
-    grows = record { limbo = stands.grows.limbo; entries = (ap makes_alone is.back, stands.grows.entries) };
+    grows = record { limbo = stands.grows.limbo; entries = (ap (makes_alone h) is.back, stands.grows.entries) };
     bases = bases_stay o h e (λ u snapshot. ap (λ (f : Effect). takes_base f u snapshot) is.back) stands.bases;
     numbers = stands.numbers;
     tables = stands.tables;

@@ -44,6 +44,9 @@ use Rattle.mg_engine_steps.specs.OwnChains.{newest_second}
 use Rattle.mg_engine_steps.specs.Shown.{ShowsFirst}
 use Rattle.mg_engine_steps.specs.Unasked.{UnaskingLasts}
 use Rattle.mg_grown_catalogs.specs.Grown.{makes_alone, SeenIsNotMade}
+use Rattle.mg_grown_catalogs.specs.MadeOnce.{AreMadeOnce, RowsAreMadeOnce}
+use Rattle.mg_grown_catalogs.specs.Together.{AreTogether, RowsAreTogether}
+use Rattle.mg_engine_changes.specs.MadeSinceLaws.{since_is_new}
 use Rattle.mg_header.specs.HeaderPage.{header_in}
 use Rattle.mg_image.specs.Form.{Pages, packed_form}
 use Rattle.mg_image.specs.Histories.{newest_at}
@@ -74,13 +77,13 @@ use Rattle.mg_pool_overlays.specs.Needs.{Asked, Sessions}
 use Rattle.mg_records.specs.Reading.{shape_seen}
 use Rattle.mg_space.specs.declared.links.FireLinks.{FireLinks}
 use Rattle.mg_image_overlays.specs.OneLayout.{StandsOneWay}
-use Rattle.mg_table_takings.specs.Keys.{AreNewIn, AreRowsToTake}
+use Rattle.mg_table_takings.specs.Keys.{AreKeysGiven}
 use Rattle.mg_table_takings.specs.Takings.{TakesTablesTo, works_left, TakesBoth}
 use Rattle.mg_taking_back.specs.Taking.{TakesChanges, not_asking}
 use Rattle.mg_txlist.specs.TxList.{said}
 use Rattle.mg_undo.specs.Machine.{undo_of, GivesWhatWas, given_from, first_of, going_to, changes_of}
 use Rattle.mg_undo.specs.Undo.{State as Undo, TakesBack as GivesAll, after_back_to, has_point}
-use Rattle.mg_undo.specs.Whole.{goes_whole, is_one_of}
+use Rattle.mg_undo.specs.Whole.{is_one_of}
 use Rattle.mg_undo.specs.declared.changes.Change.{Change as Kept}
 use Rattle.mg_value.specs.declared.value.Value.{Value}
 use Rattle.mg_works.specs.Works.{Working, given_by, given_to, unasked, with_undo, with_work, without_tables, work_of, without_written, tables_left}
@@ -88,7 +91,8 @@ use Rattle.mg_works.specs.WorksLaws.{with_its, with_others}
 use Rattle.mg_engine_changes.specs.CoreRows.{CoresTakeRows, HasTakenRows}
 use Rattle.mg_engine_changes.specs.EngineOver.{EnginesGoOver, IsBackEntry, OthersWalkOver}
 use Rattle.mg_engine_changes.specs.KeptOverLaws.{left_one, told_left}
-use Rattle.mg_engine_changes.specs.ListsTell.{KeysGoWhole, ListsTellWhole}
+use Rattle.mg_engine_changes.specs.ListsTell.{KeysGoWhole}
+use Rattle.mg_engine_changes.specs.ListsTellLaws.{keys_go_whole}
 use Rattle.mg_engine_changes.specs.OverGiven.{each_of_table, each_own, given_is as is_given, keys_are as keys_given, number_is as catalog_number, others_are, tells as tells_catalog}
 use Rattle.mg_engine_changes.specs.RowsGiven.{GivenApart, RowsAreLeft, TellsCatalog, of_catalog, of_others}
 use Rattle.mg_engine_changes.specs.RowsGivenLaws.{one_test}
@@ -129,21 +133,12 @@ rest_within m size o h e t s speaker all left rest before after i j (one_key {ke
     without_fewer c.table c.key left name key (rest_within m size o h e t s speaker keys (without_key c.table c.key left)
     rest mid after k j more name key has)
 
--- no change is dropped by going back
-pub going_changes : (undo : Undo) (point : Point) → (going_to undo point).changes ≡ undo.changes
-going_changes undo LastMark = refl
-going_changes undo (SavepointNamed name) = at (has_point undo (Some name)) refl
-  where
-    at : (b : Bool) → has_point undo (Some name) ≡ b → (after_back_to undo name).changes ≡ undo.changes
-    at true is = rw is refl
-    at false is = rw is refl
-
 -- ---- the engine
 
 module _ {D : Type 0} (m : Meaning D) (openings : OpeningsBegin) (unask : UnaskingLasts packed_form D FireLinks m)
     (lists : ListsStay) (since : SinceAreTaken) (begin : MidwaysBegin packed_form D FireLinks m)
     (first_shows : ShowsFirst packed_form) (what_was : GivesWhatWas) (keys_law : KeysAreTaken) (apart : GivenApart)
-    (rows_law : RowsAreLeft) (tell : ListsTellWhole) (takes_all : CoresTakeAll D m) (keep : KeysKeepLists D FireLinks m)
+    (rows_law : RowsAreLeft) (once : RowsAreMadeOnce) (together : RowsAreTogether) (takes_all : CoresTakeAll D m) (keep : KeysKeepLists D FireLinks m)
     (rows_taken : CoresTakeRows D m) (follow : TablesFollow) (engines : EnginesTakeTables D FireLinks m)
     (pages_taken : TablesAreTaken D FireLinks m) (none_left : NoneOfGone) (one_way : StandsOneWay packed_form)
     (old new : Core D) (t : ℕ)
@@ -191,8 +186,8 @@ module _ {D : Type 0} (m : Meaning D) (openings : OpeningsBegin) (unask : Unaski
   both = subst (λ (c : Core D). TakesBoth m c takes.takes.taken t (going_to takes.undo point) takes.takes.end
       takes.takes.keys) begun_is takes.takes.takes
 
-  rows_to : AreRowsToTake old.catalog.pointer.0 (going_to takes.undo point) takes.takes.keys
-  rows_to = subst (λ (c : Core D). AreRowsToTake c.catalog.pointer.0 (going_to takes.undo point) takes.takes.keys)
+  rows_to : AreKeysGiven old.catalog.pointer.0 (going_to takes.undo point) takes.takes.keys
+  rows_to = subst (λ (c : Core D). AreKeysGiven c.catalog.pointer.0 (going_to takes.undo point) takes.takes.keys)
       takes.has_begun.ended.same takes.takes.rows
 
   -- ---- works
@@ -316,21 +311,23 @@ module _ {D : Type 0} (m : Meaning D) (openings : OpeningsBegin) (unask : Unaski
       takes.takes.end given_steps
 
   keys_are : takes.takes.keys ≡ map (λ c. c.key) (of_catalog firsts)
-  keys_are = rows_to.given.its both.others.given takes.takes.end both.others.steps
+  keys_are = rows_to both.others.given takes.takes.end both.others.steps
       ∙ keys_given m what_was keys_law apart old t point o h e stands shows continues.1 is.back is.may both.others.given
       takes.takes.end given_steps
 
-  new_in : AreNewIn page (map (given_from (s.number t) (own o (e ∷ h) t)) firsts)
-  new_in = subst (AreNewIn page) given_is (rows_to.given.new both.others.given takes.takes.end both.others.steps)
+  -- no row of the catalog is made twice, and the rows of a table are made together
+  made_once : AreMadeOnce (own o h t)
+  made_once = once o h t shows.stands.opening opening shows.stands.legal stands.grows
 
-  kept_changes : (going_to takes.undo point).changes ≡ changes_of (s.number t) (deeds_by t (steps o h))
-  kept_changes = going_changes takes.undo point ∙ (ap (λ (u : Undo). u.changes) undo_is
-      ∙ ap (λ (u : Undo). u.changes) (shows.stands.memory.active t (sym (shows.stands.memory.state t) ∙ continues.1)).undo)
+  are_together : AreTogether (deeds_by t (steps o h))
+  are_together = together o h t shows.stands.opening opening shows.stands.legal stands.grows
+      (sym (shows.stands.memory.state t) ∙ continues.1)
 
-  goes_whole_ : KeysGoWhole (own o h t) (map (λ c. c.key) (of_catalog firsts))
-  goes_whole_ = tell (s.number t) page (deeds_by t (steps o h)) (map (λ c. c.key) (of_catalog firsts)) number_is
-      (ap (λ (cs : List Kept). goes_whole page (map (λ c. c.key) (of_catalog firsts)) cs) (sym kept_changes)
-      ∙ (ap (λ (ks : List Value). goes_whole page ks (going_to takes.undo point).changes) (sym keys_are) ∙ rows_to.whole))
+  new_in : EachChange (λ c. c.table ≡ catalog_name → newest_at (own o (e ∷ h) t) catalog_name c.key ≡ None) firsts
+  new_in = since_is_new o h e t point is.back made_once
+
+  goes_whole : KeysGoWhole (own o h t) (map (λ c. c.key) (of_catalog firsts))
+  goes_whole = keys_go_whole point (deeds_by t (steps o h)) are_together made_once (keys_law.first whole)
 
   -- ---- the changes of other tables
 
@@ -360,9 +357,9 @@ module _ {D : Type 0} (m : Meaning D) (openings : OpeningsBegin) (unask : Unaski
 
   rows_left : AreRowsLeft o h e t taken.rest takes.takes.keys
   rows_left = subst (AreRowsLeft o h e t taken.rest) (sym keys_are)
-      (rows_law o h e t (s.number t) page firsts whole taken.rest tells all_taken
+      (rows_law o h e t firsts whole taken.rest all_taken
       (rest_within m size o h e t s shows.stands.shows.versions.speaker (of_others firsts) whole taken.rest old.store
-      both.mid.store shows.image taken.image taken.steps) taken.to_come made new_in goes_whole_)
+      both.mid.store shows.image taken.image taken.steps) taken.to_come made new_in goes_whole)
 
   same_else : (key : Value) → is_among takes.takes.keys key ≡ false
       → newest_at (own o (e ∷ h) t) catalog_name key ≡ newest_at (own o h t) catalog_name key
@@ -618,7 +615,7 @@ module _ {D : Type 0} (m : Meaning D) (openings : OpeningsBegin) (unask : Unaski
   stands_now : StandsFor m now o (e ∷ h)
   stands_now = record {
     tells = rows.knows.tells.told;
-    grows = record { limbo = stands.grows.limbo; entries = (ap makes_alone is.back, stands.grows.entries) };
+    grows = record { limbo = stands.grows.limbo; entries = (ap (makes_alone h) is.back, stands.grows.entries) };
     bases = bases_stay o h e (λ u snapshot. ap (λ (f : Effect). takes_base f u snapshot) is.back) stands.bases;
     numbers = stands.numbers;
     tables = tables_now;
@@ -704,21 +701,21 @@ module _ {D : Type 0} (m : Meaning D) (openings : OpeningsBegin) (unask : Unaski
 
 pub engines_go_over : {D : Type 0} (m : Meaning D) → OpeningsBegin → UnaskingLasts packed_form D FireLinks m
     → ListsStay → SinceAreTaken → MidwaysBegin packed_form D FireLinks m → ShowsFirst packed_form → GivesWhatWas
-    → KeysAreTaken → GivenApart → RowsAreLeft → ListsTellWhole → CoresTakeAll D m → KeysKeepLists D FireLinks m
+    → KeysAreTaken → GivenApart → RowsAreLeft → RowsAreMadeOnce → RowsAreTogether → CoresTakeAll D m → KeysKeepLists D FireLinks m
     → CoresTakeRows D m → TablesFollow → EnginesTakeTables D FireLinks m → TablesAreTaken D FireLinks m
     → NoneOfGone → StandsOneWay packed_form → EnginesGoOver D m
-engines_go_over m openings unask lists since begin first_shows what_was keys_law apart rows_law tell takes_all keep rows_taken follow engines pages_taken none_left
-    one_way old new t point o h e core takes stands is = stands_over m openings unask lists since begin first_shows what_was keys_law apart rows_law tell takes_all keep rows_taken follow engines pages_taken none_left one_way old
+engines_go_over m openings unask lists since begin first_shows what_was keys_law apart rows_law once together takes_all keep rows_taken follow engines pages_taken none_left
+    one_way old new t point o h e core takes stands is = stands_over m openings unask lists since begin first_shows what_was keys_law apart rows_law once together takes_all keep rows_taken follow engines pages_taken none_left one_way old
     new t point o h e core takes stands is (shows_of m old o h stands takes.has_begun.continues.0)
 
 pub others_walk_over : {D : Type 0} (m : Meaning D) → OpeningsBegin → UnaskingLasts packed_form D FireLinks m
     → ListsStay → SinceAreTaken → MidwaysBegin packed_form D FireLinks m → ShowsFirst packed_form → GivesWhatWas
-    → KeysAreTaken → GivenApart → RowsAreLeft → ListsTellWhole → CoresTakeAll D m → KeysKeepLists D FireLinks m
+    → KeysAreTaken → GivenApart → RowsAreLeft → RowsAreMadeOnce → RowsAreTogether → CoresTakeAll D m → KeysKeepLists D FireLinks m
     → CoresTakeRows D m → TablesFollow → EnginesTakeTables D FireLinks m → TablesAreTaken D FireLinks m
     → NoneOfGone → StandsOneWay packed_form
     → KeysKeepPages D FireLinks m → BackWalksGoOn → TablesWalksGoOn → SeenIsNotMade → OthersWalkOver D m
-others_walk_over m openings unask lists since begin first_shows what_was keys_law apart rows_law tell takes_all keep rows_taken follow engines pages_taken none_left
+others_walk_over m openings unask lists since begin first_shows what_was keys_law apart rows_law once together takes_all keep rows_taken follow engines pages_taken none_left
     one_way keep_pages walks tables_walk not_seen old new t point o h e core takes stands is i held u ne active table given
-    after rows next = walks_over m openings unask lists since begin first_shows what_was keys_law apart rows_law tell takes_all keep rows_taken follow engines pages_taken none_left one_way old new t point o h e core takes stands is
+    after rows next = walks_over m openings unask lists since begin first_shows what_was keys_law apart rows_law once together takes_all keep rows_taken follow engines pages_taken none_left one_way old new t point o h e core takes stands is
     (shows_of m old o h stands takes.has_begun.continues.0) keep_pages walks tables_walk not_seen u ne active table
     given i held after rows next

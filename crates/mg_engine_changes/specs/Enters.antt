@@ -133,11 +133,11 @@ no_failure t table (writes.Insert row) = refl
 no_failure t table (writes.Change key row) = refl
 no_failure t table (writes.Erase key) = refl
 
-makes : (t : TxNo) (table : Table) (write : Write) → same_name table.name catalog_name ≡ false
-    → makes_alone (effect_of (made_by t table write)) ≡ true
-makes t table (writes.Insert row) other = refl
-makes t table (writes.Change key row) other = rw other refl
-makes t table (writes.Erase key) other = rw other refl
+makes : (h : Entries) (t : TxNo) (table : Table) (write : Write) → same_name table.name catalog_name ≡ false
+    → makes_alone h (effect_of (made_by t table write)) ≡ true
+makes h t table (writes.Insert row) other = rw other refl
+makes h t table (writes.Change key row) other = rw other refl
+makes h t table (writes.Erase key) other = rw other refl
 
 takes_none : (t : TxNo) (table : Table) (write : Write) (u : ℕ) (snapshot : Bool)
     → takes_base (effect_of (made_by t table write)) u snapshot ≡ false
@@ -393,7 +393,7 @@ module _ (speakers : SpeakersAreTold) (befores : BeforesAreTold) (follow : MadeW
       }) o (made_by t table write ∷ h)
   stood kept rec notes noted after j held told online_after geometry goes leaves = record {
     tells = told;
-    grows = record { limbo = stands.grows.limbo; entries = (makes t table write other, stands.grows.entries) };
+    grows = record { limbo = stands.grows.limbo; entries = (makes h t table write other, stands.grows.entries) };
     bases = bases_stay o h (made_by t table write) (takes_none t table write) stands.bases;
     numbers = numbers_now;
     tables = stands.tables;

@@ -80,6 +80,7 @@ pub mod Made
 pub mod MadeLaws
 pub mod MadePages
 pub mod MadeShown
+pub mod MadeSinceLaws
 pub mod MadeStands
 pub mod MakingLaws
 pub mod MakingRefusalLaws
@@ -155,6 +156,7 @@ pub mod TablesWalksLaws
 pub mod TakingStepLaws
 pub mod TakingSteps
 pub mod Takings
+pub mod TextLaws
 pub mod TipLaws
 pub mod Tips
 pub mod ToTake

@@ -1,112 +1,293 @@
--- The changes that a transaction keeps to take back tell whether the keys that go are those of whole tables.
-use Rattle.std.proofs.Common.{◌≡◌, ◌∙◌, ◌==◌, ◌&&◌, ◌++◌, ◌∷◌, ◌-◌, ◌+◌, ◌/◌, ◌%◌, ℕ, Bool, true, false, List, [], ap, append_assoc, arith, cond, length, refl, subst, sym, take}
-use Rattle.std.specs.Ordering.{is_eq}
-use Rattle.std.specs.declared.cmp.Ordering.{Ordering}
-use Rattle.std.specs.declared.cmp.Ordering.TheVariants.{Less, Equal, Greater}
+-- The rows of the catalog that a transaction takes back are those of whole tables: it made those of a table together, and
+-- none twice.
+use Rattle.std.proofs.Common.{◌≡◌, ◌⊎◌, inl, inr, ◌∙◌, ◌&&◌, ◌||◌, ◌++◌, ◌∷◌, ℕ, Bool, true, false, List, [], ap, arith, cond, map, refl, subst, sym}
 use Rattle.std.specs.Cmp.Lexicographic.{same_text}
-use Rattle.std.proofs.lemmas.Bool.{eq-eqb, false≢true}
-use Rattle.std.proofs.lemmas.List.{length-append, take-append-le}
+use Rattle.std.proofs.lemmas.Bool.{false≢true}
 use Rattle.mg_value.specs.declared.value.Value.{Value}
-use Rattle.mg_value.specs.OrderLaws.{same_from_value_cmp}
-use Rattle.mg_value.specs.Values.{value_cmp}
+use Rattle.mg_grown_catalogs.specs.MadeOnce.{AreMadeOnce}
+use Rattle.mg_grown_catalogs.specs.Together.{AreTogether, ComesWith, since_last}
+use Rattle.mg_grown_catalogs.specs.TogetherLaws.{together_back}
+use Rattle.mg_model.specs.declared.change.Change.{Change}
 use Rattle.mg_model.specs.declared.change.Deed.{Deed}
 use Rattle.mg_model.specs.declared.change.Deed.TheVariants.{Changed, Marked, Saved}
-use Rattle.mg_model.specs.Catalog.{catalog_name, column_key, index_key, table_key, two_digits}
+use Rattle.mg_model.specs.declared.change.Point.{Point}
+use Rattle.mg_model.specs.declared.change.Point.TheVariants.{LastMark, SavepointNamed}
+use Rattle.mg_model.specs.Catalog.{catalog_name, column_key, index_key, table_key, text_of, two_digits}
 use Rattle.mg_model.specs.Changes.{has_change, is_at, same_key, same_name}
-use Rattle.mg_model.specs.Machine.{changes_in}
-use Rattle.mg_undo.specs.Machine.{changes_of}
-use Rattle.mg_undo.specs.Whole.{are_alike, goes_whole, is_one_of, key_goes_whole, table_of_column}
-use Rattle.mg_engine_changes.specs.ListsTell.{ListsTellWhole}
+use Rattle.mg_model.specs.Effects.{deeds_back, from_point, has_deed}
+use Rattle.mg_model.specs.Machine.{changes_in, is_point}
+use Rattle.mg_model.specs.RowLaws.{same_from_same_key}
+use Rattle.mg_undo.specs.Machine.{changes_since, first_of}
+use Rattle.mg_undo.specs.Whole.{is_one_of}
+use Rattle.mg_engine_steps.specs.Outs.{is_among}
+use Rattle.mg_engine_changes.specs.ListsTell.{KeysGoWhole}
+use Rattle.mg_engine_changes.specs.MadeSinceLaws.{IsNewTo, since_new}
+use Rattle.mg_engine_changes.specs.RowsGiven.{of_catalog}
+use Rattle.mg_engine_changes.specs.RowsGivenLaws.{one_test}
+use Rattle.mg_engine_changes.specs.TextLaws.{column_table}
+use Rattle.mg_engine_changes.specs.ToTake.{AreKeysOf, EachChange, since_if, since_point}
 
 both_true : (a b : Bool) → (a && b) ≡ true → (a ≡ true) × (b ≡ true)
 both_true true true is = (refl, refl)
 both_true true false is = absurd cc
 both_true false b is = absurd cc
 
-alike_same : (a b : Bool) → are_alike a b ≡ true → a ≡ b
-alike_same true true is = refl
-alike_same true false is = absurd cc
-alike_same false true is = absurd cc
-alike_same false false is = refl
+same_tests : (a b : Bool) → (a ≡ true → b ≡ true) → (b ≡ true → a ≡ true) → a ≡ b
+same_tests true b to from = sym (to refl)
+same_tests false true to from = from refl
+same_tests false false to from = refl
 
-keys_same : (a b : Value) → same_key a b ≡ true → a ≡ b
-keys_same a b same = same_from_value_cmp a b (at (value_cmp a b) same)
+-- ---- a change at a key, first or later
+
+later : (b c : Bool) → c ≡ true → cond b true c ≡ true
+later true c is = refl
+later false c is = is
+
+more_there : (b c d : Bool) → (c ≡ true → d ≡ true) → cond b true c ≡ true → cond b true d ≡ true
+more_there true c d more is = refl
+more_there false c d more is = more is
+
+at_key : (c : Change) (key : Value) → is_at c catalog_name key ≡ true → (c.table ≡ catalog_name) × (c.key ≡ key)
+at_key c key is =
+    let parts = both_true (same_name c.table catalog_name) (same_key c.key key) is in
+    (same_text c.table catalog_name (sym parts.0), same_from_same_key c.key key parts.1)
+
+last_in : (ds : List Deed) (key : Value) → has_change (since_last ds) catalog_name key ≡ true
+    → has_change (changes_in ds) catalog_name key ≡ true
+last_in [] key has = has
+last_in (Changed c ∷ ds) key has = more_there (is_at c catalog_name key) (has_change (since_last ds) catalog_name key)
+    (has_change (changes_in ds) catalog_name key) (last_in ds key) has
+last_in (Marked ∷ ds) key has = absurd (false≢true has)
+last_in (Saved name ∷ ds) key has = absurd (false≢true has)
+
+last_since : (point : Point) (ds : List Deed) (key : Value) → has_change (since_last ds) catalog_name key ≡ true
+    → has_change (changes_since point ds) catalog_name key ≡ true
+last_since point [] key has = has
+last_since point (Changed c ∷ ds) key has = more_there (is_at c catalog_name key)
+    (has_change (since_last ds) catalog_name key) (has_change (changes_since point ds) catalog_name key)
+    (last_since point ds key) has
+last_since point (Marked ∷ ds) key has = absurd (false≢true has)
+last_since point (Saved name ∷ ds) key has = absurd (false≢true has)
+
+-- a change is one since the point, or it was before
+since_or_back : (point : Point) (ds : List Deed) (key : Value) → has_change (changes_in ds) catalog_name key ≡ true
+    → (has_change (changes_since point ds) catalog_name key ≡ true)
+    ⊎ (has_change (changes_in (deeds_back point ds)) catalog_name key ≡ true)
+since_or_back point [] key has = inl has
+since_or_back LastMark (Changed c ∷ ds) key has = at (is_at c catalog_name key) has (since_or_back LastMark ds key)
   where
-    at : (o : Ordering) → is_eq o ≡ true → o ≡ Equal
-    at Less e = absurd cc
-    at Equal e = refl
-    at Greater e = absurd cc
+    on : (b : Bool) → (has_change (changes_since LastMark ds) catalog_name key ≡ true)
+        ⊎ (has_change (changes_in (deeds_back LastMark ds)) catalog_name key ≡ true)
+        → (cond b true (has_change (changes_since LastMark ds) catalog_name key) ≡ true)
+        ⊎ (has_change (changes_in (deeds_back LastMark ds)) catalog_name key ≡ true)
+    on b (inl since) = inl (later b (has_change (changes_since LastMark ds) catalog_name key) since)
+    on b (inr back) = inr back
 
--- a column's key names its table
-name_there : (name : List ℕ) (x y z : ℕ)
-    → take (length ((name ++ x ∷ []) ++ y ∷ z ∷ []) - 3) ((name ++ x ∷ []) ++ y ∷ z ∷ []) ≡ name
-name_there name x y z = ap (λ (n : ℕ). take (n - 3) ((name ++ x ∷ []) ++ y ∷ z ∷ [])) long
-    ∙ (ap (λ (xs : List ℕ). take (length name + 3 - 3) xs) (append_assoc name (x ∷ []) (y ∷ z ∷ []))
-    ∙ (ap (λ (n : ℕ). take n (name ++ x ∷ y ∷ z ∷ [])) (omega arith)
-    ∙ (take-append-le (length name) name (x ∷ y ∷ z ∷ []) (omega arith) ∙ all name)))
+    at : (b : Bool) → cond b true (has_change (changes_in ds) catalog_name key) ≡ true
+        → (has_change (changes_in ds) catalog_name key ≡ true
+        → (has_change (changes_since LastMark ds) catalog_name key ≡ true)
+        ⊎ (has_change (changes_in (deeds_back LastMark ds)) catalog_name key ≡ true))
+        → (cond b true (has_change (changes_since LastMark ds) catalog_name key) ≡ true)
+        ⊎ (has_change (changes_in (deeds_back LastMark ds)) catalog_name key ≡ true)
+    at true has_ more = inl refl
+    at false has_ more = on false (more has_)
+since_or_back LastMark (Marked ∷ ds) key has = inr has
+since_or_back LastMark (Saved name ∷ ds) key has = since_or_back LastMark ds key has
+since_or_back (SavepointNamed its) (Changed c ∷ ds) key has =
+    at (is_at c catalog_name key) has (since_or_back (SavepointNamed its) ds key)
   where
-    long : length ((name ++ x ∷ []) ++ y ∷ z ∷ []) ≡ length name + 3
-    long = length-append (name ++ x ∷ []) (y ∷ z ∷ []) ∙ (ap (λ (n : ℕ). n + 2) (length-append name (x ∷ [])) ∙ omega arith)
+    on : (b : Bool) → (has_change (changes_since (SavepointNamed its) ds) catalog_name key ≡ true)
+        ⊎ (has_change (changes_in (deeds_back (SavepointNamed its) ds)) catalog_name key ≡ true)
+        → (cond b true (has_change (changes_since (SavepointNamed its) ds) catalog_name key) ≡ true)
+        ⊎ (has_change (changes_in (deeds_back (SavepointNamed its) ds)) catalog_name key ≡ true)
+    on b (inl since) = inl (later b (has_change (changes_since (SavepointNamed its) ds) catalog_name key) since)
+    on b (inr back) = inr back
 
-    all : (xs : List ℕ) → take (length xs) xs ≡ xs
-    all [] = refl
-    all (x ∷ xs) = ap (λ (ys : List ℕ). x ∷ ys) (all xs)
+    at : (b : Bool) → cond b true (has_change (changes_in ds) catalog_name key) ≡ true
+        → (has_change (changes_in ds) catalog_name key ≡ true
+        → (has_change (changes_since (SavepointNamed its) ds) catalog_name key ≡ true)
+        ⊎ (has_change (changes_in (deeds_back (SavepointNamed its) ds)) catalog_name key ≡ true))
+        → (cond b true (has_change (changes_since (SavepointNamed its) ds) catalog_name key) ≡ true)
+        ⊎ (has_change (changes_in (deeds_back (SavepointNamed its) ds)) catalog_name key ≡ true)
+    at true has_ more = inl refl
+    at false has_ more = on false (more has_)
+since_or_back (SavepointNamed its) (Marked ∷ ds) key has = since_or_back (SavepointNamed its) ds key has
+since_or_back (SavepointNamed its) (Saved name ∷ ds) key has =
+    at (same_name its name) (since_or_back (SavepointNamed its) ds key has)
+  where
+    at : (b : Bool) → (has_change (changes_since (SavepointNamed its) ds) catalog_name key ≡ true)
+        ⊎ (has_change (changes_in (deeds_back (SavepointNamed its) ds)) catalog_name key ≡ true)
+        → (has_change (cond b [] (changes_since (SavepointNamed its) ds)) catalog_name key ≡ true)
+        ⊎ (has_change (changes_in (cond b (Saved name ∷ ds) (deeds_back (SavepointNamed its) ds))) catalog_name key ≡ true)
+    at true more = inr has
+    at false more = more
 
-table_there : (name : List ℕ) (place : ℕ)
-    → table_of_column ((name ++ 46 ∷ []) ++ two_digits place) ≡ table_key name
-table_there name place = ap table_key (name_there name 46 (48 + place / 10) (48 + place % 10))
+-- what is new to these changes is at no key of theirs
+new_off : (left cs : List Change) (key : Value) → EachChange (IsNewTo left) cs
+    → has_change cs catalog_name key ≡ true → has_change left catalog_name key ≡ false
+new_off left [] key each has = absurd (false≢true has)
+new_off left (c ∷ cs) key each has = at (is_at c catalog_name key) refl has
+  where
+    at : (b : Bool) → is_at c catalog_name key ≡ b → cond b true (has_change cs catalog_name key) ≡ true
+        → has_change left catalog_name key ≡ false
+    at true is has_ =
+        let its = at_key c key is in
+        subst (λ (k : Value). has_change left catalog_name k ≡ false) its.1 (each.0 its.0)
+    at false off has_ = new_off left cs key each.1 has_
 
--- ---- one key
+-- ---- the key of a column
 
-column_goes : (keys : List Value) (name : List ℕ) (place : ℕ) → key_goes_whole keys (column_key name place) ≡ true
-    → is_one_of keys (column_key name place) ≡ is_one_of keys (table_key name)
-column_goes keys name place passes =
-    alike_same (is_one_of keys (column_key name place)) (is_one_of keys (table_of_column
-    ((name ++ 46 ∷ []) ++ two_digits place))) passes
-    ∙ ap (is_one_of keys) (table_there name place)
-
-index_never : (keys : List Value) (name : List ℕ) → key_goes_whole keys (index_key name) ≡ false
-index_never keys name = refl
-
--- ---- all changes
-
-module _ (number : List ℕ → ℕ) (catalog : ℕ) (keys : List Value) where
-  -- a change of the catalog at a key: the key passes
-  passes : (deeds : List Deed) (key : Value) → number catalog_name ≡ catalog
-      → goes_whole catalog keys (changes_of number deeds) ≡ true
-      → has_change (changes_in deeds) catalog_name key ≡ true → key_goes_whole keys key ≡ true
-  passes [] key its test there = absurd cc
-  passes (Marked ∷ deeds) key its test there = passes deeds key its test there
-  passes (Saved name ∷ deeds) key its test there = passes deeds key its test there
-  passes (Changed c ∷ deeds) key its test there =
-      at (is_at c catalog_name key) refl there (passes deeds key its both.1)
+module _ (name : List ℕ) (place : ℕ) where
+  its_table : (cs : List Change) (key : Value) → key ≡ column_key name place → ComesWith cs (text_of key)
+      → has_change cs catalog_name (table_key name) ≡ true
+  its_table cs key is comes = at (subst (λ (k : Value). ComesWith cs (text_of k)) is comes)
     where
-      both : ((cond (number c.table == catalog) (key_goes_whole keys c.key) true) ≡ true)
-          × (goes_whole catalog keys (changes_of number deeds) ≡ true)
-      both = both_true (cond (number c.table == catalog) (key_goes_whole keys c.key) true)
-          (goes_whole catalog keys (changes_of number deeds)) test
+      at : ComesWith cs (text_of (column_key name place)) → has_change cs catalog_name (table_key name) ≡ true
+      at (inl t_is) = absurd (omega (arith, t_is))
+      at (inr (c_is, there)) =
+          subst (λ (n : List ℕ). has_change cs catalog_name (table_key n) ≡ true) (column_table name place) there
 
-      at : (b : Bool) → is_at c catalog_name key ≡ b
-          → cond b true (has_change (changes_in deeds) catalog_name key) ≡ true
-          → (has_change (changes_in deeds) catalog_name key ≡ true → key_goes_whole keys key ≡ true)
-          → key_goes_whole keys key ≡ true
-      at false off there_ more = more there_
-      at true on there_ more =
-          let parts = both_true (same_name c.table catalog_name) (same_key c.key key) on in
-          let table : c.table ≡ catalog_name = same_text c.table catalog_name (sym parts.0) in
-          let here : (number c.table == catalog) ≡ true = eq-eqb (number c.table) catalog (ap number table ∙ its) in
-          subst (λ (k : Value). key_goes_whole keys k ≡ true) (keys_same c.key key parts.1)
-          (sym (ap (λ (b : Bool). cond b (key_goes_whole keys c.key) true) here) ∙ both.0)
+  column_in : (ds : List Deed) → AreTogether ds → has_change (changes_in ds) catalog_name (column_key name place) ≡ true
+      → has_change (changes_in ds) catalog_name (table_key name) ≡ true
+  column_in [] are has = absurd (false≢true has)
+  column_in (Changed c ∷ ds) are has = later (is_at c catalog_name (table_key name))
+      (has_change (changes_in ds) catalog_name (table_key name)) (at (is_at c catalog_name (column_key name place)) refl has)
+    where
+      at : (b : Bool) → is_at c catalog_name (column_key name place) ≡ b
+          → cond b true (has_change (changes_in ds) catalog_name (column_key name place)) ≡ true
+          → has_change (changes_in ds) catalog_name (table_key name) ≡ true
+      at true is has_ =
+          let its = at_key c (column_key name place) is in
+          last_in ds (table_key name) (its_table (since_last ds) c.key its.1 (are.0 its.0))
+      at false off has_ = column_in ds are.1 has_
+  column_in (Marked ∷ ds) are has = column_in ds are has
+  column_in (Saved saved ∷ ds) are has = column_in ds are has
 
-pub lists_tell_whole : ListsTellWhole
-lists_tell_whole number catalog deeds keys its test = record {
-  columns = λ name place there. column_goes keys name place
-      (passes number catalog keys deeds (column_key name place) (its (column_key name place) there) test there);
-  indexes = λ name. at name (has_change (changes_in deeds) catalog_name (index_key name)) refl;
+  column_since : (point : Point) (ds : List Deed) → AreTogether ds
+      → has_change (changes_since point ds) catalog_name (column_key name place) ≡ true
+      → has_change (changes_since point ds) catalog_name (table_key name) ≡ true
+  column_since point [] are has = absurd (false≢true has)
+  column_since point (Changed c ∷ ds) are has = later (is_at c catalog_name (table_key name))
+      (has_change (changes_since point ds) catalog_name (table_key name))
+      (at (is_at c catalog_name (column_key name place)) refl has)
+    where
+      at : (b : Bool) → is_at c catalog_name (column_key name place) ≡ b
+          → cond b true (has_change (changes_since point ds) catalog_name (column_key name place)) ≡ true
+          → has_change (changes_since point ds) catalog_name (table_key name) ≡ true
+      at true is has_ =
+          let its = at_key c (column_key name place) is in
+          last_since point ds (table_key name) (its_table (since_last ds) c.key its.1 (are.0 its.0))
+      at false off has_ = column_since point ds are.1 has_
+  column_since point (Marked ∷ ds) are has = at (is_point point Marked) has (column_since point ds are)
+    where
+      at : (b : Bool) → has_change (cond b [] (changes_since point ds)) catalog_name (column_key name place) ≡ true
+          → (has_change (changes_since point ds) catalog_name (column_key name place) ≡ true
+          → has_change (changes_since point ds) catalog_name (table_key name) ≡ true)
+          → has_change (cond b [] (changes_since point ds)) catalog_name (table_key name) ≡ true
+      at true has_ more = absurd (false≢true has_)
+      at false has_ more = more has_
+  column_since point (Saved saved ∷ ds) are has = at (is_point point (Saved saved)) has (column_since point ds are)
+    where
+      at : (b : Bool) → has_change (cond b [] (changes_since point ds)) catalog_name (column_key name place) ≡ true
+          → (has_change (changes_since point ds) catalog_name (column_key name place) ≡ true
+          → has_change (changes_since point ds) catalog_name (table_key name) ≡ true)
+          → has_change (cond b [] (changes_since point ds)) catalog_name (table_key name) ≡ true
+      at true has_ more = absurd (false≢true has_)
+      at false has_ more = more has_
+
+  -- it goes with that of its table
+  column_goes : (point : Point) (ds : List Deed) → AreTogether ds → AreMadeOnce (changes_in ds)
+      → has_change (changes_in ds) catalog_name (column_key name place) ≡ true
+      → has_change (since_point point ds) catalog_name (column_key name place)
+      ≡ has_change (since_point point ds) catalog_name (table_key name)
+  column_goes point ds are once has = at (has_deed point ds)
+    where
+      -- where that of the table goes, none of it was before: nor was the column's
+      back : has_change (changes_since point ds) catalog_name (table_key name) ≡ true
+          → has_change (changes_since point ds) catalog_name (column_key name place) ≡ true
+      back table = on (since_or_back point ds (column_key name place) has)
+        where
+          on : (has_change (changes_since point ds) catalog_name (column_key name place) ≡ true)
+              ⊎ (has_change (changes_in (deeds_back point ds)) catalog_name (column_key name place) ≡ true)
+              → has_change (changes_since point ds) catalog_name (column_key name place) ≡ true
+          on (inl since) = since
+          on (inr before) = absurd (false≢true (sym (new_off (changes_in (deeds_back point ds)) (changes_since point ds)
+              (table_key name) (since_new point ds once) table)
+              ∙ column_in (deeds_back point ds) (together_back point ds are) before))
+
+      at : (b : Bool) → has_change (since_if b point ds) catalog_name (column_key name place)
+          ≡ has_change (since_if b point ds) catalog_name (table_key name)
+      at true = same_tests (has_change (changes_since point ds) catalog_name (column_key name place))
+          (has_change (changes_since point ds) catalog_name (table_key name)) (column_since point ds are) back
+      at false = refl
+
+-- ---- the key of an index
+
+index_never : (name : List ℕ) (ds : List Deed) → AreTogether ds
+    → has_change (changes_in ds) catalog_name (index_key name) ≡ false
+index_never name [] are = refl
+index_never name (Changed c ∷ ds) are = at (is_at c catalog_name (index_key name)) refl (index_never name ds are.1)
+  where
+    never : ComesWith (since_last ds) (text_of (index_key name)) → ⊥
+    never (inl t_is) = omega (arith, t_is)
+    never (inr (c_is, there)) = omega (arith, c_is)
+
+    at : (b : Bool) → is_at c catalog_name (index_key name) ≡ b
+        → has_change (changes_in ds) catalog_name (index_key name) ≡ false
+        → cond b true (has_change (changes_in ds) catalog_name (index_key name)) ≡ false
+    at true is more =
+        let its = at_key c (index_key name) is in
+        absurd (never (subst (λ (k : Value). ComesWith (since_last ds) (text_of k)) its.1 (are.0 its.0)))
+    at false off more = more
+index_never name (Marked ∷ ds) are = index_never name ds are
+index_never name (Saved saved ∷ ds) are = index_never name ds are
+
+-- ---- the keys that go
+
+among_has : (keys : List Change) (key : Value)
+    → is_among (map (λ c. c.key) (of_catalog keys)) key ≡ has_change keys catalog_name key
+among_has [] key = refl
+among_has (c ∷ cs) key = at (same_name c.table catalog_name) (same_key c.key key) (among_has cs key)
+  where
+    on : (b : Bool) → is_among (map (λ c. c.key) (of_catalog cs)) key ≡ has_change cs catalog_name key
+        → (b || is_among (map (λ c. c.key) (of_catalog cs)) key) ≡ cond b true (has_change cs catalog_name key)
+    on true more = refl
+    on false more = more
+
+    at : (a b : Bool) → is_among (map (λ c. c.key) (of_catalog cs)) key ≡ has_change cs catalog_name key
+        → is_among (map (λ c. c.key) (cond a (c ∷ of_catalog cs) (of_catalog cs))) key
+        ≡ cond (a && same_key c.key key) true (has_change cs catalog_name key)
+    at true b more = on (same_key c.key key) more
+    at false b more = more
+
+each_has : (left cs : List Change) (key : Value) → EachChange (λ c. has_change left c.table c.key ≡ true) cs
+    → has_change cs catalog_name key ≡ true → has_change left catalog_name key ≡ true
+each_has left [] key each has = absurd (false≢true has)
+each_has left (c ∷ cs) key each has = at (is_at c catalog_name key) refl has
+  where
+    at : (b : Bool) → is_at c catalog_name key ≡ b → cond b true (has_change cs catalog_name key) ≡ true
+        → has_change left catalog_name key ≡ true
+    at true is has_ =
+        let its = at_key c key is in
+        subst (λ (n : List ℕ). has_change left n key ≡ true) its.0
+        (subst (λ (k : Value). has_change left c.table k ≡ true) its.1 each.0)
+    at false off has_ = each_has left cs key each.1 has_
+
+-- what a transaction takes back to a point, the first change of each key
+pub keys_go_whole : (point : Point) (ds : List Deed) → AreTogether ds → AreMadeOnce (changes_in ds)
+    → AreKeysOf (first_of (since_point point ds)) (since_point point ds)
+    → KeysGoWhole (changes_in ds) (map (λ c. c.key) (of_catalog (first_of (since_point point ds))))
+keys_go_whole point ds are once first = record {
+  columns = λ name place has. goes (column_key name place)
+      ∙ (column_goes name place point ds are once has ∙ sym (goes (table_key name)));
+  indexes = λ name. index_never name ds are;
 }
   where
-    at : (name : List ℕ) (b : Bool) → has_change (changes_in deeds) catalog_name (index_key name) ≡ b
-        → has_change (changes_in deeds) catalog_name (index_key name) ≡ false
-    at name false off = off
-    at name true on = absurd (false≢true (sym (index_never keys name)
-        ∙ passes number catalog keys deeds (index_key name) (its (index_key name) on) test on))
+    goes : (key : Value) → is_one_of (map (λ c. c.key) (of_catalog (first_of (since_point point ds)))) key
+        ≡ has_change (since_point point ds) catalog_name key
+    goes key = one_test (map (λ c. c.key) (of_catalog (first_of (since_point point ds)))) key
+        ∙ (among_has (first_of (since_point point ds)) key
+        ∙ same_tests (has_change (first_of (since_point point ds)) catalog_name key)
+        (has_change (since_point point ds) catalog_name key)
+        (each_has (since_point point ds) (first_of (since_point point ds)) key first.each)
+        (first.whole catalog_name key))

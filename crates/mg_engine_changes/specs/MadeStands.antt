@@ -1,6 +1,6 @@
 -- An engine has made a table: it stands for the history with an entry for each of its rows.
 use Rattle.std.proofs.Common.{◌≡◌, ◌≢◌, ◌⊎◌, inl, inr, refl, sym, ap, ◌∙◌, subst, ◌==◌, ◌&&◌, ℕ, Bool, true, false, List, [], ◌∷◌, map, Option, None, Some}
-use Rattle.std.specs.Prelude.{if◌then◌else◌, is_some}
+use Rattle.std.specs.Prelude.{◌+◌, ◌||◌, if◌then◌else◌, is_some, not}
 use Rattle.std.proofs.Math.Path.{fun_ext}
 use Rattle.std.proofs.lemmas.Bool.{cases_eq, eq-eqb, eqb-true, false≢true, ne_eqb}
 use Rattle.std.specs.Cmp.Lexicographic.{same_text, slice_cmp}
@@ -13,9 +13,10 @@ use Rattle.mg_base.specs.declared.geometry.Geometry.{Geometry}
 use Rattle.mg_base.specs.declared.numbers.TxNo.{TxNo}
 use Rattle.mg_base.specs.declared.transaction.TxState.{TxState}
 use Rattle.mg_base.specs.declared.transaction.TxState.TheVariants.{Active}
+use Rattle.mg_value.specs.declared.shape.Column.{Column}
 use Rattle.mg_value.specs.declared.shape.Shape.{Shape}
 use Rattle.mg_value.specs.declared.value.Value.{Value}
-use Rattle.mg_catalog.specs.RowsSaid.{column_rows, table_row}
+use Rattle.mg_catalog.specs.RowsSaid.{column_row, column_rows, table_row}
 use Rattle.mg_header.specs.HeaderPage.{header_in}
 use Rattle.mg_model.specs.declared.answer.Answer.{Answer}
 use Rattle.mg_model.specs.declared.answer.Answer.TheVariants.{Fine, No}
@@ -34,7 +35,8 @@ use Rattle.mg_model.specs.Openings.{everyone}
 use Rattle.mg_model.specs.ReadLaws.{same_name_itself}
 use Rattle.mg_records.specs.Reading.{shape_seen}
 use Rattle.mg_records.specs.Writing.{IsNewShape, new_table, rows_made}
-use Rattle.mg_grown_catalogs.specs.Grown.{EachMakes}
+use Rattle.mg_grown_catalogs.specs.Grown.{EachMakes, comes_with_table, key_text, last_makes, says_of}
+use Rattle.mg_engine_changes.specs.TextLaws.{column_table}
 use Rattle.mg_image.specs.Catalog.{IsSameTable, catalog_table}
 use Rattle.mg_image.specs.Form.{Pages, packed_form}
 use Rattle.mg_image.specs.Tables.{Layout, Stand, stands_of}
@@ -101,9 +103,41 @@ first_named (s ∷ ss) name page (inr more) =
 
 -- ---- the history
 
-rows_grow : (t : TxNo) (rows : List Cells) (h : Entries) → EachMakes h → EachMakes (with_rows t rows h)
-rows_grow t [] h each = each
-rows_grow t (row ∷ rows) h each = rows_grow t rows (row_entry t row ∷ h) (refl, each)
+all_true : (a b c : Bool) → a ≡ true → b ≡ true → c ≡ true → (a && (b && c)) ≡ true
+all_true true true true x y z = refl
+all_true true true false x y z = absurd (false≢true z)
+all_true true false c x y z = absurd (false≢true y)
+all_true false b c x y z = absurd (false≢true x)
+
+or_true : (a b : Bool) → b ≡ true → (a || b) ≡ true
+or_true true b is = refl
+or_true false b is = is
+
+-- a row of a table has come last
+last_row : (t : TxNo) (name : List ℕ) (row : Cells) (h : Entries) → says_of name (key_text row) ≡ true
+    → last_makes t.0 name (row_entry t row ∷ h) ≡ true
+last_row t name row h says = all_true (t.0 == t.0) (same_name catalog_name catalog_name) (says_of name (key_text row))
+    (eq-eqb t.0 t.0 refl) (same_name_itself catalog_name) says
+
+-- those of its columns come behind it
+columns_grow : (t : TxNo) (name : List ℕ) (key place : ℕ) (columns : List Column) (h : Entries)
+    → last_makes t.0 name h ≡ true → EachMakes h → EachMakes (with_rows t (column_rows name key place columns) h)
+columns_grow t name key place [] h last each = each
+columns_grow t name key place (c ∷ cs) h last each =
+    columns_grow t name key (place + 1) cs (row_entry t (column_row name key place c) ∷ h)
+    (last_row t name (column_row name key place c) h (ap (λ (n : List ℕ). same_name n name) (column_table name place)
+    ∙ same_name_itself name))
+    (or_true (not (same_name catalog_name catalog_name))
+    (comes_with_table t.0 (key_text (column_row name key place c)) h)
+    (ap (λ (n : List ℕ). last_makes t.0 n h) (column_table name place) ∙ last), each)
+
+table_grows : (t : TxNo) (name : List ℕ) (shape : Shape) (h : Entries) → EachMakes h
+    → EachMakes (with_rows t (rows_made name shape) h)
+table_grows t name shape h each = columns_grow t name shape.key 0 shape.columns
+    (row_entry t (table_row (new_table name shape)) ∷ h)
+    (last_row t name (table_row (new_table name shape)) h (same_name_itself name))
+    (or_true (not (same_name catalog_name catalog_name))
+    (comes_with_table t.0 (key_text (table_row (new_table name shape))) h) refl, each)
 
 rows_bases : (o : Opening) (t : TxNo) (rows : List Cells) (h : Entries) → BasesAreLawful o h
     → BasesAreLawful o (with_rows t rows h)
@@ -519,7 +553,7 @@ module _ (one_way : StandsOneWay packed_form) (begins : OpeningsBegin) (seen_law
       }) o (with_rows t (rows_made name shape) h)
   made_stands tells held online geometry = record {
     tells = tells;
-    grows = record { limbo = stands.grows.limbo; entries = rows_grow t (rows_made name shape) h stands.grows.entries };
+    grows = record { limbo = stands.grows.limbo; entries = table_grows t name shape h stands.grows.entries };
     bases = rows_bases o t (rows_made name shape) h stands.bases;
     numbers = numbers_now;
     tables = tables_now;

@@ -13,7 +13,7 @@ use Rattle.mg_image.specs.Histories.{newest_at}
 use Rattle.mg_engine_steps.specs.Outs.{is_among}
 use Rattle.mg_engine_steps.specs.TablesBack.{AreRowsLeft}
 use Rattle.mg_engine_changes.specs.ToTake.{AreKeysOf, EachChange}
-use Rattle.mg_table_takings.specs.Keys.{AreNewIn, keys_of, others_of}
+use Rattle.mg_table_takings.specs.Keys.{keys_of, others_of}
 use Rattle.mg_engine_changes.specs.ListsTell.{KeysGoWhole}
 
 -- those of some changes that are of the catalog
@@ -45,10 +45,9 @@ pub record GivenApart : Type 0 where
 -- what is left to take back once the changes of other tables are: the rows of the catalog, of whole tables, each made by the
 -- transaction
 abbrev pub RowsAreLeft : Type 0
-RowsAreLeft = (o : Opening) (h : Entries) (e : Entry) (t : ℕ) (number : List ℕ → ℕ) (catalog : ℕ)
-    (keys whole left : List Change) → TellsCatalog number catalog keys → AreTaken o h e t whole
+RowsAreLeft = (o : Opening) (h : Entries) (e : Entry) (t : ℕ) (keys whole left : List Change) → AreTaken o h e t whole
     → ((name : List ℕ) (key : Value) → has_change left name key ≡ true → has_change whole name key ≡ true)
     → AreKeysOf (of_catalog keys) left → EachChange (λ c. has_change (own o h t) c.table c.key ≡ true) keys
-    → AreNewIn catalog (map (given_from number (own o (e ∷ h) t)) keys)
+    → EachChange (λ c. c.table ≡ catalog_name → newest_at (own o (e ∷ h) t) catalog_name c.key ≡ None) keys
     → KeysGoWhole (own o h t) (map (λ c. c.key) (of_catalog keys))
     → AreRowsLeft o h e t left (map (λ c. c.key) (of_catalog keys))

@@ -2,29 +2,28 @@
 use Rattle.std.proofs.Common.{◌≡◌, ◌≢◌, ◌⊎◌, inl, inr, ◌∙◌, ◌&&◌, ◌||◌, ◌++◌, ◌∷◌, ℕ, Bool, true, false, List, [], Option, None, Some, ap, cond, map, refl, subst, sym}
 use Rattle.std.specs.Prelude.{is_some}
 use Rattle.std.specs.Cmp.Lexicographic.{same_text}
-use Rattle.std.proofs.lemmas.Bool.{eqb-true, false≢true}
+use Rattle.std.proofs.lemmas.Bool.{false≢true}
 use Rattle.mg_value.specs.declared.value.Value.{Value}
 use Rattle.mg_model.specs.declared.change.Change.{Change}
 use Rattle.mg_model.specs.declared.opening.Opening.{Opening}
 use Rattle.mg_model.specs.Catalog.{catalog_name, column_key, index_key, table_key}
-use Rattle.mg_model.specs.Changes.{Cells, has_change, is_at, same_key, same_name}
+use Rattle.mg_model.specs.Changes.{has_change, is_at, same_key, same_name}
 use Rattle.mg_model.specs.History.{Entries, Entry}
 use Rattle.mg_model.specs.Machine.{own}
 use Rattle.mg_model.specs.ReadLaws.{same_name_itself}
 use Rattle.mg_model.specs.RowLaws.{same_from_same_key}
 use Rattle.mg_image.specs.Histories.{newest_at, row_change}
 use Rattle.mg_image.specs.Records as records
-use Rattle.mg_undo.specs.Machine.{given_from, has_same, was_given, was_in}
+use Rattle.mg_undo.specs.Machine.{given_from, has_same}
 use Rattle.mg_undo.specs.Whole.{is_one_of}
 use Rattle.mg_undo.specs.declared.changes.Change.{Change as Kept}
-use Rattle.mg_undo.specs.declared.changes.Was.TheVariants as was
 use Rattle.mg_engine_steps.specs.Again.{AreTaken}
 use Rattle.mg_engine_steps.specs.OwnChains.{change_there, newest_second, none_second}
 use Rattle.mg_engine_steps.specs.Outs.{is_among}
 use Rattle.mg_engine_steps.specs.TablesBack.{AreRowsLeft}
 use Rattle.mg_engine_steps.specs.Whole.{GoWhole}
 use Rattle.mg_engine_changes.specs.ToTake.{AreKeysOf, AreOfOtherKeys, EachChange}
-use Rattle.mg_table_takings.specs.Keys.{AreNewIn, keys_of, others_of}
+use Rattle.mg_table_takings.specs.Keys.{keys_of, others_of}
 use Rattle.mg_engine_changes.specs.ListsTell.{KeysGoWhole}
 use Rattle.mg_engine_changes.specs.RowsGiven.{GivenApart, RowsAreLeft, TellsCatalog, of_catalog, of_others}
 
@@ -325,33 +324,6 @@ pub one_test : (keys : List Value) (key : Value) → is_one_of keys key ≡ is_a
 one_test [] key = refl
 one_test (k ∷ keys) key = ap (λ (b : Bool). same_key k key || b) (one_test keys key)
 
--- a key that the transaction had not changed has no change of those that are left
-untouched_none : (cs : List Change) (name : List ℕ) (key : Value) → was_in cs name key ≡ was.Untouched
-    → newest_at cs name key ≡ None
-untouched_none [] name key is = refl
-untouched_none (c ∷ cs) name key is = at (is_at c name key) is (untouched_none cs name key)
-  where
-    given : (row : Option Cells) → was_given row ≡ was.Untouched → ⊥
-    given None same = absurd cc
-    given (Some row) same = absurd cc
-
-    at : (b : Bool) → cond b (was_given c.row) (was_in cs name key) ≡ was.Untouched
-        → (was_in cs name key ≡ was.Untouched → newest_at cs name key ≡ None)
-        → cond b (Some (row_change c.row)) (newest_at cs name key) ≡ None
-    at true is_ more = absurd (given c.row is_)
-    at false is_ more = more is_
-
-each_new : (number : List ℕ → ℕ) (catalog : ℕ) (left keys : List Change) → TellsCatalog number catalog keys
-    → AreNewIn catalog (map (given_from number left) keys)
-    → EachChange (λ c. c.table ≡ catalog_name → newest_at left catalog_name c.key ≡ None) keys
-each_new number catalog left [] tells new = tt
-each_new number catalog left (c ∷ cs) tells new = (
-  λ is. ap (λ (n : List ℕ). newest_at left n c.key) (sym is)
-      ∙ untouched_none left c.table c.key (new.0 (eqb-true (number c.table) catalog (tells.0
-      ∙ (ap (λ (n : List ℕ). same_name n catalog_name) is ∙ same_name_itself catalog_name)))),
-  each_new number catalog left cs tells.1 new.1,
-)
-
 each_made : (own_ keys : List Change) → EachChange (λ c. has_change own_ c.table c.key ≡ true) keys
     → EachChange (λ c. c.table ≡ catalog_name → has_change own_ catalog_name c.key ≡ true) keys
 each_made own_ [] each = tt
@@ -365,12 +337,11 @@ same_tests true b to from = sym (to refl)
 same_tests false true to from = from refl
 same_tests false false to from = refl
 
-module _ (o : Opening) (h : Entries) (e : Entry) (t : ℕ) (number : List ℕ → ℕ) (catalog : ℕ)
-    (keys whole left : List Change) (tells : TellsCatalog number catalog keys) (taken : AreTaken o h e t whole)
+module _ (o : Opening) (h : Entries) (e : Entry) (t : ℕ) (keys whole left : List Change) (taken : AreTaken o h e t whole)
     (within : (name : List ℕ) (key : Value) → has_change left name key ≡ true → has_change whole name key ≡ true)
     (are : AreKeysOf (of_catalog keys) left)
     (made : EachChange (λ c. has_change (own o h t) c.table c.key ≡ true) keys)
-    (new : AreNewIn catalog (map (given_from number (own o (e ∷ h) t)) keys))
+    (new : EachChange (λ c. c.table ≡ catalog_name → newest_at (own o (e ∷ h) t) catalog_name c.key ≡ None) keys)
     (goes : KeysGoWhole (own o h t) (map (λ c. c.key) (of_catalog keys))) where
   abbrev gone : Value → Bool
   gone = is_among (map (λ c. c.key) (of_catalog keys))
@@ -480,11 +451,10 @@ module _ (o : Opening) (h : Entries) (e : Entry) (t : ℕ) (number : List ℕ �
     rows = λ name key c is. only_catalog keys name key (there name key (some_change name key c is));
     keys_are = keys_are;
     made = row_is_key (λ k. has_change (own o h t) catalog_name k ≡ true) keys (each_made (own o h t) keys made);
-    none = row_is_key (λ k. newest_at (own o (e ∷ h) t) catalog_name k ≡ None) keys
-        (each_new number catalog (own o (e ∷ h) t) keys tells new);
+    none = row_is_key (λ k. newest_at (own o (e ∷ h) t) catalog_name k ≡ None) keys new;
     whole = goes_whole;
   }
 
 pub rows_are_left : RowsAreLeft
-rows_are_left o h e t number catalog keys whole left tells taken within are made new goes =
-    rows_left o h e t number catalog keys whole left tells taken within are made new goes
+rows_are_left o h e t keys whole left taken within are made new goes =
+    rows_left o h e t keys whole left taken within are made new goes

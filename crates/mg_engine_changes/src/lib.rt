@@ -53,8 +53,8 @@ pub use makings::{
     made_tables_keep, new_rows_say_a_table, new_tables_are_read, tables_are_made,
 };
 pub use over_tables::{
-    backs_give_over, cores_take_rows, engines_go_over, lists_tell_whole, refusals_give_over,
-    rows_are_given, tables_follow, tables_walks_go_on,
+    backs_give_over, cores_take_rows, engines_go_over, refusals_give_over, rows_are_given,
+    tables_follow, tables_walks_go_on,
 };
 pub use row_writes::{
     befores_are_told, first_batches_stay, made_rows_give, made_writes_follow, new_rows_go_on,

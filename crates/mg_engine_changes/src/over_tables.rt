@@ -2,9 +2,10 @@
 //!
 //! Owns:
 //!
-//! - `lists`: the list in memory tells that the rows of the catalog which go are those of whole tables
-//!   (`ListsTellWhole`). What it gives to take back falls into the changes of other tables and the rows of the catalog
-//!   (`GivenApart`); once the former are taken back, what is left are rows that the transaction had made (`RowsAreLeft`).
+//! - `lists`: what the list in memory gives to take back falls into the changes of other tables and the rows of the
+//!   catalog (`GivenApart`); once the former are taken back, what is left are rows that the transaction had made
+//!   (`RowsAreLeft`). They are those of whole tables, since none is made twice, and those of a table are made together
+//!   (`KeysGoWhole`).
 //! - `ways`: memory follows the entry, where the tables have gone that the transaction saw (`TablesFollow`); the walks of
 //!   all others go on over the batch (`TablesWalksGoOn`); and what the core takes out of the catalog is a step of the laws
 //!   of `mg_engine_steps` (`CoresTakeRows`).
@@ -28,6 +29,6 @@ mod outcomes;
 mod ways;
 
 pub use engines::engines_go_over;
-pub use lists::{lists_tell_whole, rows_are_given};
+pub use lists::rows_are_given;
 pub use outcomes::{backs_give_over, refusals_give_over};
 pub use ways::{cores_take_rows, tables_follow, tables_walks_go_on};

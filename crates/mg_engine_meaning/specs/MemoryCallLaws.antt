@@ -94,16 +94,16 @@ refused_may m places old new t (NotActive told_) same refuses = record {
 refused_may m places old new t refusal same refuses = absurd refuses
 
 -- an idle entry makes no other row of the catalog
-pub idle_makes : (f : Effect) → is_idle f ≡ true → makes_alone f ≡ true
-idle_makes (Begins t mode) is = refl
-idle_makes (Looks t) is = refl
-idle_makes (Makes t table row) is = refl
-idle_makes (Gives t table key row) is = absurd (false≢true is)
-idle_makes (Marks t) is = refl
-idle_makes (Saves t name) is = refl
-idle_makes (TakesBack t point) is = refl
-idle_makes (Ends t end) is = refl
-idle_makes Nothing is = refl
+pub idle_makes : (h : Entries) (f : Effect) → is_idle f ≡ true → makes_alone h f ≡ true
+idle_makes h (Begins t mode) is = refl
+idle_makes h (Looks t) is = refl
+idle_makes h (Makes t table row) is = absurd (false≢true is)
+idle_makes h (Gives t table key row) is = absurd (false≢true is)
+idle_makes h (Marks t) is = refl
+idle_makes h (Saves t name) is = refl
+idle_makes h (TakesBack t point) is = refl
+idle_makes h (Ends t end) is = refl
+idle_makes h Nothing is = refl
 
 -- ---- the engine afterwards
 
@@ -143,7 +143,7 @@ module _ {D P : Type 0} (m : Meaning D) (places : Places P) (old : Core D) (wait
       tells = stands.tells;
       grows = record {
         limbo = stands.grows.limbo;
-        entries = (idle_makes (effect_of e) idle, stands.grows.entries);
+        entries = (idle_makes h (effect_of e) idle, stands.grows.entries);
       };
       bases = bases;
       numbers = stands.numbers;

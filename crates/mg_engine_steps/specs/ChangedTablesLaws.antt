@@ -379,5 +379,5 @@ none_of_gone stay within new o h e t point name key back opening legal grows act
     at false is = refl
     at true is = absurd (refuted (changed_are_there stay within o (e ∷ h) t name key opening legal (record {
       limbo = grows.limbo;
-      entries = (ap makes_alone back, grows.entries);
+      entries = (ap (makes_alone h) back, grows.entries);
     }) now other is))

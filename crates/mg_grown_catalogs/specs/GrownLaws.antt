@@ -69,37 +69,37 @@ made_left point ds made = at (has_deed point ds)
 and_is : (x y a b : Bool) → x ≡ a → y ≡ b → (x && y) ≡ (a && b)
 and_is x y a b first second = ap (λ (z : Bool). z && y) first ∙ ap (λ (z : Bool). a && z) second
 
-made_after : (f : Effect) (t : ℕ) (catalog : CatalogRows) (old : List Deed) → makes_alone f ≡ true
+made_after : (h : Entries) (f : Effect) (t : ℕ) (catalog : CatalogRows) (old : List Deed) → makes_alone h f ≡ true
     → AreMade old → AreMade (deeds_after f t catalog old)
-made_after (Begins u mode) t catalog old alone made = made
-made_after (Looks u) t catalog old alone made = made
-made_after (Makes u table row) t catalog old alone made = at (u == t)
+made_after h (Begins u mode) t catalog old alone made = made
+made_after h (Looks u) t catalog old alone made = made
+made_after h (Makes u table row) t catalog old alone made = at (u == t)
   where
     at : (b : Bool) → AreMade (cond b (changed table (key_in catalog table row) (Some row) ∷ old) old)
     at true = ((λ here. refl), made)
     at false = made
-made_after (Gives u table key row) t catalog old alone made = at (u == t)
+made_after h (Gives u table key row) t catalog old alone made = at (u == t)
   where
     at : (b : Bool) → AreMade (cond b (changed table key row ∷ old) old)
     at true = ((λ here. absurd (false≢true (sym (ap not here) ∙ alone))), made)
     at false = made
-made_after (Marks u) t catalog old alone made = at (u == t)
+made_after h (Marks u) t catalog old alone made = at (u == t)
   where
     at : (b : Bool) → AreMade (cond b (Marked ∷ old) old)
     at true = made
     at false = made
-made_after (Saves u name) t catalog old alone made = at (u == t)
+made_after h (Saves u name) t catalog old alone made = at (u == t)
   where
     at : (b : Bool) → AreMade (cond b (Saved name ∷ old) old)
     at true = made
     at false = made
-made_after (TakesBack u point) t catalog old alone made = at (u == t)
+made_after h (TakesBack u point) t catalog old alone made = at (u == t)
   where
     at : (b : Bool) → AreMade (cond b (deeds_left point old) old)
     at true = made_left point old made
     at false = made
-made_after (Ends u end) t catalog old alone made = made
-made_after Nothing t catalog old alone made = made
+made_after h (Ends u end) t catalog old alone made = made
+made_after h Nothing t catalog old alone made = made
 
 -- a key of the catalog that they change has a row
 made_row : (ds : List Deed) (key : Value) → AreMade ds
@@ -129,13 +129,13 @@ record Made (f : Effect) (t : ℕ) (catalog : CatalogRows) (key : Value) : Type 
   at_key : same_key (key_in catalog table row) key ≡ true
 
 -- a key of the catalog that own changes have they had before, or its row was made just now
-had : (f : Effect) (t : ℕ) (catalog : CatalogRows) (old : List Deed) (key : Value)
-    → makes_alone f ≡ true
+had : (h : Entries) (f : Effect) (t : ℕ) (catalog : CatalogRows) (old : List Deed) (key : Value)
+    → makes_alone h f ≡ true
     → has_change (changes_in (deeds_after f t catalog old)) catalog_name key ≡ true
     → (has_change (changes_in old) catalog_name key ≡ true) ⊎ Made f t catalog key
-had (Begins u mode) t catalog old key alone has = inl has
-had (Looks u) t catalog old key alone has = inl has
-had (Makes u table row) t catalog old key alone has =
+had h (Begins u mode) t catalog old key alone has = inl has
+had h (Looks u) t catalog old key alone has = inl has
+had h (Makes u table row) t catalog old key alone has =
     at (u == t) refl (same_name table catalog_name) refl (same_key (key_in catalog table row) key) refl has
   where
     both : (a b : Bool) → same_name table catalog_name ≡ a → same_key (key_in catalog table row) key ≡ b
@@ -162,7 +162,7 @@ had (Makes u table row) t catalog old key alone has =
     at true its false is b keyed has =
         inl (subst (λ (x : Bool). cond x true (has_change (changes_in old) catalog_name key) ≡ true)
         (both false b is keyed) has)
-had (Gives u table given row) t catalog old key alone has = at (u == t) has
+had h (Gives u table given row) t catalog old key alone has = at (u == t) has
   where
     other : same_name table catalog_name ≡ false
     other = by (same_name table catalog_name) alone
@@ -176,36 +176,36 @@ had (Gives u table given row) t catalog old key alone has = at (u == t) has
     at false has = inl has
     at true has = inl (subst (λ (x : Bool). cond (x && same_key given key) true
         (has_change (changes_in old) catalog_name key) ≡ true) other has)
-had (Marks u) t catalog old key alone has = at (u == t) has
+had h (Marks u) t catalog old key alone has = at (u == t) has
   where
     at : (c : Bool) → has_change (changes_in (cond c (Marked ∷ old) old)) catalog_name key ≡ true
         → (has_change (changes_in old) catalog_name key ≡ true) ⊎ Made (Marks u) t catalog key
     at true has = inl has
     at false has = inl has
-had (Saves u name) t catalog old key alone has = at (u == t) has
+had h (Saves u name) t catalog old key alone has = at (u == t) has
   where
     at : (c : Bool) → has_change (changes_in (cond c (Saved name ∷ old) old)) catalog_name key ≡ true
         → (has_change (changes_in old) catalog_name key ≡ true) ⊎ Made (Saves u name) t catalog key
     at true has = inl has
     at false has = inl has
-had (TakesBack u point) t catalog old key alone has = at (u == t) (has_deed point old) has
+had h (TakesBack u point) t catalog old key alone has = at (u == t) (has_deed point old) has
   where
     at : (c d : Bool) → has_change (changes_in (cond c (cond d (deeds_back point old) old) old)) catalog_name key
         ≡ true → (has_change (changes_in old) catalog_name key ≡ true) ⊎ Made (TakesBack u point) t catalog key
     at true true has = inl (left_had point old catalog_name key has)
     at true false has = inl has
     at false d has = inl has
-had (Ends u end) t catalog old key alone has = inl has
-had Nothing t catalog old key alone has = inl has
+had h (Ends u end) t catalog old key alone has = inl has
+had h Nothing t catalog old key alone has = inl has
 
 -- ---- a row that is made
 
 -- A row is made by an event that asks for it, and is answered Fine.
-record IsInsert (event : Event) (said : Answer) (t : ℕ) (table : List ℕ) (row : Cells) : Type 0 where
-  fine : said ≡ Fine
-  event_is : event ≡ Insert (number t) table row
+pub record IsInsert (event : Event) (said : Answer) (t : ℕ) (table : List ℕ) (row : Cells) : Type 0 where
+  pub fine : said ≡ Fine
+  pub event_is : event ≡ Insert (number t) table row
 
-insert_of : (event : Event) (said : Answer) (t : ℕ) (table : List ℕ) (row : Cells)
+pub insert_of : (event : Event) (said : Answer) (t : ℕ) (table : List ℕ) (row : Cells)
     → effect_with event said ≡ Makes t table row → IsInsert event said t table row
 insert_of (Insert v named given) Fine t table row is =
     let by : v.0 ≡ t = cc in
@@ -244,7 +244,7 @@ insert_of (Decide u commit) (Tx n) t table row is = absurd cc
 insert_of event (Rows rows) t table row is = absurd cc
 insert_of event (No refusal) t table row is = absurd cc
 
-fine_answer : (o : Opening) (h : Entries) (e : Entry) (event : Event) → IsLawful o h e → e.answer ≡ Fine
+pub fine_answer : (o : Opening) (h : Entries) (e : Entry) (event : Event) → IsLawful o h e → e.answer ≡ Fine
     → e.event ≡ event → answer o h event ≡ Fine
 fine_answer o h e event (inl lawful) fine is = sym (ap (answer o h) is) ∙ (sym lawful ∙ fine)
 fine_answer o h e event (inr outer) fine is = absurd (false≢true (sym (ap is_outer fine) ∙ outer))
@@ -413,7 +413,7 @@ limbo_new o (c ∷ cs) t key each has =
 own_made : (o : Opening) (h : Entries) (t : ℕ) → CatalogGrows o h → AreMade (deeds_by t (steps o h))
 own_made o [] t grows = limbo_made o o.limbo t grows.limbo
 own_made o (e ∷ h) t grows = subst AreMade (sym (deeds_after_entry o h e t))
-    (made_after (effect_of e) t (catalog_of (told o h) t) (deeds_by t (steps o h)) grows.entries.0
+    (made_after h (effect_of e) t (catalog_of (told o h) t) (deeds_by t (steps o h)) grows.entries.0
     (own_made o h t (record { limbo = grows.limbo; entries = grows.entries.1 })))
 
 module _ (fine : InsertIsFine) (o : Opening) (opening : MayBegin o) where
@@ -438,7 +438,7 @@ module _ (fine : InsertIsFine) (o : Opening) (opening : MayBegin o) where
       → is_open (state_of o h t) ≡ true → has_change (own o h t) catalog_name key ≡ true
       → row_at (database o h) catalog_name key ≡ None
   own_new [] legal grows t key open_ has = limbo_new o o.limbo t key grows.limbo has
-  own_new (e ∷ h) legal grows t key open_ has = at (had (effect_of e) t (catalog_of (told o h) t)
+  own_new (e ∷ h) legal grows t key open_ has = at (had h (effect_of e) t (catalog_of (told o h) t)
       (deeds_by t (steps o h)) key grows.entries.0 (sym (ap (λ (ds : List Deed).
       has_change (changes_in ds) catalog_name key) (deeds_after_entry o h e t)) ∙ has))
       (own_new h legal.1 fewer t key)

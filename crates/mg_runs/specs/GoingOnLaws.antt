@@ -1,6 +1,6 @@
 -- A next history can begin with each image that a run might have left, and goes on from a durable event of the run's.
-use Rattle.std.proofs.Common.{◌≡◌, ◌⊎◌, inl, inr, ◌<◌, ◌≤◌, ◌&&◌, ℕ, Bool, true, false, [], ◌∷◌, refl, sym, ap, ◌∙◌, arith, lit≤}
-use Rattle.std.specs.Prelude.{if◌then◌else◌}
+use Rattle.std.proofs.Common.{◌≡◌, ◌⊎◌, inl, inr, ◌<◌, ◌≤◌, ◌&&◌, ◌||◌, ◌==◌, ℕ, Bool, true, false, List, [], ◌∷◌, refl, sym, ap, ◌∙◌, arith, lit≤}
+use Rattle.std.specs.Prelude.{if◌then◌else◌, not}
 use Rattle.std.proofs.lemmas.Bool.{cases_lt, false≢true}
 use Rattle.mg_base.specs.Disk.{Meaning}
 use Rattle.mg_base.specs.Image.{Image, page_at}
@@ -10,7 +10,7 @@ use Rattle.mg_engine_meaning.specs.Closings.{GoesOnFrom}
 use Rattle.mg_engine_meaning.specs.ComposeLaws.{begins_with, goes_on_from}
 use Rattle.mg_engine_meaning.specs.Openings.{new_history}
 use Rattle.mg_format.specs.Format.{IsUnmadeImage}
-use Rattle.mg_grown_catalogs.specs.Grown.{CatalogGrows, EachMakes, OwnRowsAreNew, makes_alone}
+use Rattle.mg_grown_catalogs.specs.Grown.{CatalogGrows, EachMakes, OwnRowsAreNew, columns_table, comes_with_table, key_text, last_makes, makes_alone, makes_of}
 use Rattle.mg_header.specs.declared.header.TheConstants.{GREATEST_NEXT}
 use Rattle.mg_image.specs.Form.{packed_form}
 use Rattle.mg_image.specs.Histories.{HoldsDurable, durable_committed}
@@ -19,14 +19,17 @@ use Rattle.mg_image_openings.specs.Begun.{begun}
 use Rattle.mg_image_openings.specs.Openings.{packed_fitting}
 use Rattle.mg_lasting.specs.Crashes.{HoldsFrom, asked, is_failed_write, may_last}
 use Rattle.mg_model.specs.Answers.{is_committed}
-use Rattle.mg_model.specs.History.{Entries, effect_of, entry}
+use Rattle.mg_model.specs.Catalog.{catalog_name}
+use Rattle.mg_model.specs.Changes.{same_name}
+use Rattle.mg_model.specs.History.{Begins, Effect, Ends, Entries, Gives, Looks, Makes, Marks, Nothing, Saves, TakesBack, effect_of, effect_with, entry}
 use Rattle.mg_model.specs.Machine.{opening_state}
 use Rattle.mg_model.specs.NewOpeningLaws.{new_is_opening}
 use Rattle.mg_model.specs.NumberLaws.{undrawn_is_dead}
 use Rattle.mg_model.specs.Laws.{OpeningsBegin}
 use Rattle.mg_model.specs.Legal.{MayBegin, durable_limbo, is_lasting, is_limbo, with_asked}
 use Rattle.mg_model.specs.Openings.{IsOpening}
-use Rattle.mg_model.specs.declared.answer.Answer.TheVariants.{Fine}
+use Rattle.mg_model.specs.declared.answer.Answer.{Answer}
+use Rattle.mg_model.specs.declared.answer.Answer.TheVariants.{Fine, No, Rows, Tx}
 use Rattle.mg_model.specs.declared.event.Event.{Event}
 use Rattle.mg_model.specs.declared.event.Event.TheVariants as events
 use Rattle.mg_model.specs.declared.opening.Opening.{Opening}
@@ -38,22 +41,67 @@ use Rattle.mg_runs.specs.PromisingLaws.{any_free_begins}
 -- ---- the event that is under way
 
 -- a durable event makes no row of the catalog
-lasting_makes : (event : Event) → is_lasting event ≡ true → makes_alone (effect_of (entry event Fine)) ≡ true
-lasting_makes (events.Prepare t) is = refl
-lasting_makes (events.Commit t) is = refl
-lasting_makes (events.Decide t commit) is = refl
-lasting_makes (events.Begin session mode) is = absurd cc
-lasting_makes (events.Look t) is = absurd cc
-lasting_makes (events.Find t table test) is = absurd cc
-lasting_makes (events.Claim t table) is = absurd cc
-lasting_makes (events.Insert t table row) is = absurd cc
-lasting_makes (events.Change t table key row) is = absurd cc
-lasting_makes (events.Erase t table key) is = absurd cc
-lasting_makes (events.Mark t) is = absurd cc
-lasting_makes (events.UndoMark t) is = absurd cc
-lasting_makes (events.Savepoint t name) is = absurd cc
-lasting_makes (events.BackTo t name) is = absurd cc
-lasting_makes (events.Rollback t) is = absurd cc
+lasting_makes : (h : Entries) (event : Event) → is_lasting event ≡ true
+    → makes_alone h (effect_of (entry event Fine)) ≡ true
+lasting_makes h (events.Prepare t) is = refl
+lasting_makes h (events.Commit t) is = refl
+lasting_makes h (events.Decide t commit) is = refl
+lasting_makes h (events.Begin session mode) is = absurd cc
+lasting_makes h (events.Look t) is = absurd cc
+lasting_makes h (events.Find t table test) is = absurd cc
+lasting_makes h (events.Claim t table) is = absurd cc
+lasting_makes h (events.Insert t table row) is = absurd cc
+lasting_makes h (events.Change t table key row) is = absurd cc
+lasting_makes h (events.Erase t table key) is = absurd cc
+lasting_makes h (events.Mark t) is = absurd cc
+lasting_makes h (events.UndoMark t) is = absurd cc
+lasting_makes h (events.Savepoint t name) is = absurd cc
+lasting_makes h (events.BackTo t name) is = absurd cc
+lasting_makes h (events.Rollback t) is = absurd cc
+
+-- and no failed one does
+failed_none : (t : ℕ) (name : List ℕ) (lasting : Bool) (event : Event) (said : Answer)
+    → (lasting && is_failed_write said) ≡ true → makes_of t name (effect_with event said) ≡ false
+failed_none t name false event said is = absurd (false≢true is)
+failed_none t name true event Fine is = absurd (false≢true is)
+failed_none t name true event (Tx u) is = absurd (false≢true is)
+failed_none t name true event (Rows rows) is = absurd (false≢true is)
+failed_none t name true event (No refusal) is = refl
+
+last_still : (t : ℕ) (name : List ℕ) (h : Entries) → last_makes t name h ≡ true → last_makes t name (asked h) ≡ true
+last_still t name [] last = last
+last_still t name (e ∷ h) last = at (may_last e) refl
+  where
+    at : (b : Bool) → may_last e ≡ b → last_makes t name (if b then with_asked h e.event else e ∷ asked h) ≡ true
+    at true is = absurd (false≢true (sym (failed_none t name (is_lasting e.event) e.event e.answer is) ∙ last))
+    at false is = last
+
+comes_still : (t : ℕ) (text : List ℕ) (h : Entries) → comes_with_table t text h ≡ true
+    → comes_with_table t text (asked h) ≡ true
+comes_still t [] h is = is
+comes_still t (letter ∷ rest) h is = at (letter == 84) (letter == 67) is
+  where
+    at : (a b : Bool) → (a || (b && last_makes t (columns_table rest) h)) ≡ true
+        → (a || (b && last_makes t (columns_table rest) (asked h))) ≡ true
+    at true b is_ = refl
+    at false true is_ = last_still t (columns_table rest) h is_
+    at false false is_ = is_
+
+still_alone : (h : Entries) (f : Effect) → makes_alone h f ≡ true → makes_alone (asked h) f ≡ true
+still_alone h (Makes t table row) is = at (not (same_name table catalog_name)) is
+  where
+    at : (a : Bool) → (a || comes_with_table t (key_text row) h) ≡ true
+        → (a || comes_with_table t (key_text row) (asked h)) ≡ true
+    at true is_ = refl
+    at false is_ = comes_still t (key_text row) h is_
+still_alone h (Begins t mode) is = is
+still_alone h (Looks t) is = is
+still_alone h (Gives t table key row) is = is
+still_alone h (Marks t) is = is
+still_alone h (Saves t name) is = is
+still_alone h (TakesBack t point) is = is
+still_alone h (Ends t end) is = is
+still_alone h Nothing is = is
 
 asked_makes : (h : Entries) → EachMakes h → EachMakes (asked h)
 asked_makes [] each = tt
@@ -64,8 +112,8 @@ asked_makes (e ∷ h) each = at (may_last e) refl (asked_makes h each.1)
     of_both false b is = absurd (false≢true is)
 
     at : (b : Bool) → may_last e ≡ b → EachMakes (asked h) → EachMakes (if b then with_asked h e.event else e ∷ asked h)
-    at true is more = (lasting_makes e.event (of_both (is_lasting e.event) (is_failed_write e.answer) is), each.1)
-    at false is more = (each.0, more)
+    at true is more = (lasting_makes h e.event (of_both (is_lasting e.event) (is_failed_write e.answer) is), each.1)
+    at false is more = (still_alone h (effect_of e) each.0, more)
 
 pub asked_grows : (o : Opening) (h : Entries) → CatalogGrows o h → CatalogGrows o (asked h)
 asked_grows o h grows = record { limbo = grows.limbo; entries = asked_makes h grows.entries }

@@ -5,22 +5,15 @@ use Rattle.mg_value.specs.declared.value.Value.{Value}
 use Rattle.mg_undo.specs.Undo.{State as Undo, TakesBack, ends, gives, given_as, take_back}
 use Rattle.mg_undo.specs.declared.changes.Change.{Change}
 use Rattle.mg_undo.specs.declared.changes.Was.{Was}
-use Rattle.mg_undo.specs.declared.changes.Was.TheVariants.{Untouched}
 use Rattle.mg_taking_back.specs.Changes.{change_of}
 use Rattle.mg_taking_back.specs.TakingLaws.{given_is, given_none}
-use Rattle.mg_table_takings.specs.Keys.{AreKeysGiven, AreNewIn, keys_of}
+use Rattle.mg_table_takings.specs.Keys.{AreKeysGiven, keys_of}
 
 -- no more is given
 pub none_left : (number : ℕ) (left : Undo) → None ≡ given_as (take_back left).given → AreKeysGiven number left []
-none_left number left is = record { its = λ given end steps. its given end steps; new = λ given end steps. new given end steps }
-  where
-    its : (given : List Change) (end : Undo) → TakesBack left given end → [] ≡ keys_of number given
-    its given end (ends none after) = refl
-    its given end (gives c some more) = let both : Some c ≡ None = sym some ∙ given_none _ (sym is) in absurd cc
-
-    new : (given : List Change) (end : Undo) → TakesBack left given end → AreNewIn number given
-    new given end (ends none after) = tt
-    new given end (gives c some more) = let both : Some c ≡ None = sym some ∙ given_none _ (sym is) in absurd cc
+none_left number left is given end (ends none after) = refl
+none_left number left is given end (gives c some more) =
+    let both : Some c ≡ None = sym some ∙ given_none _ (sym is) in absurd cc
 
 -- A step gives a change.
 module _ (number : ℕ) (left next : Undo) (table : ℕ) (key : Value) (was : Was)
@@ -38,46 +31,27 @@ module _ (number : ℕ) (left next : Undo) (table : ℕ) (key : Value) (was : Wa
   on_next rest end steps = subst (λ (u : Undo). TakesBack u rest end) (sym after) steps
 
   -- that is of the table
-  module _ (keys : List Value) (are : AreKeysGiven number next keys) (same : table ≡ number) (untouched : was ≡ Untouched)
-    where
-      here : (c : Change) → (take_back left).given ≡ Some c → (c.table == number) ≡ true
-      here c some = eq-eqb c.table number (ap (λ (d : Change). d.table) (its_change c some) ∙ same)
+  module _ (keys : List Value) (are : AreKeysGiven number next keys) (same : table ≡ number) where
+    here : (c : Change) → (take_back left).given ≡ Some c → (c.table == number) ≡ true
+    here c some = eq-eqb c.table number (ap (λ (d : Change). d.table) (its_change c some) ∙ same)
 
-      its_more : (given : List Change) (end : Undo) → TakesBack left given end → key ∷ keys ≡ keys_of number given
-      its_more given end (ends none after_) = absurd (not_ended none)
-      its_more given end (gives {given = rest} c some more) =
-          ap (λ (ks : List Value). key ∷ ks) (are.its rest end (on_next rest end more))
-          ∙ (ap (λ (d : Change). d.key ∷ keys_of number rest) (sym (its_change c some))
-          ∙ sym (ap (λ (b : Bool). cond b (c.key ∷ keys_of number rest) (keys_of number rest)) (here c some)))
-
-      new_more : (given : List Change) (end : Undo) → TakesBack left given end → AreNewIn number given
-      new_more given end (ends none after_) = absurd (not_ended none)
-      new_more given end (gives {given = rest} c some more) = (
-        λ of_table. ap (λ (d : Change). d.was) (its_change c some) ∙ untouched,
-        are.new rest end (on_next rest end more),
-      )
-
-      one_more : AreKeysGiven number left (key ∷ keys)
-      one_more = record { its = its_more; new = new_more }
+    one_more : AreKeysGiven number left (key ∷ keys)
+    one_more given end (ends none after_) = absurd (not_ended none)
+    one_more given end (gives {given = rest} c some more) =
+        ap (λ (ks : List Value). key ∷ ks) (are rest end (on_next rest end more))
+        ∙ (ap (λ (d : Change). d.key ∷ keys_of number rest) (sym (its_change c some))
+        ∙ sym (ap (λ (b : Bool). cond b (c.key ∷ keys_of number rest) (keys_of number rest)) (here c some)))
 
   -- that is of another one
   module _ (keys : List Value) (are : AreKeysGiven number next keys) (other : table ≢ number) where
     off : (c : Change) → (take_back left).given ≡ Some c → c.table ≢ number
     off c some same = other (sym (ap (λ (d : Change). d.table) (its_change c some)) ∙ same)
 
-    its_same : (given : List Change) (end : Undo) → TakesBack left given end → keys ≡ keys_of number given
-    its_same given end (ends none after_) = absurd (not_ended none)
-    its_same given end (gives {given = rest} c some more) = are.its rest end (on_next rest end more)
+    none_more : AreKeysGiven number left keys
+    none_more given end (ends none after_) = absurd (not_ended none)
+    none_more given end (gives {given = rest} c some more) = are rest end (on_next rest end more)
         ∙ sym (ap (λ (b : Bool). cond b (c.key ∷ keys_of number rest) (keys_of number rest))
         (ne_eqb c.table number (off c some)))
-
-    new_same : (given : List Change) (end : Undo) → TakesBack left given end → AreNewIn number given
-    new_same given end (ends none after_) = absurd (not_ended none)
-    new_same given end (gives {given = rest} c some more) =
-        (λ of_table. absurd (off c some of_table), are.new rest end (on_next rest end more))
-
-    none_more : AreKeysGiven number left keys
-    none_more = record { its = its_same; new = new_same }
 
 -- ---- the loop
 
@@ -91,11 +65,11 @@ leads_itself number undo keys none rest are =
 
 pub leads_on : (number : ℕ) (undo left next : Undo) (keys now : List Value) (table : ℕ) (key : Value) (was : Was)
     → Some (table, key, was) ≡ given_as (take_back left).given → next ≡ (take_back left).after → table ≡ number
-    → was ≡ Untouched → now ≡ keys ++ key ∷ [] → Leads number undo left keys → Leads number undo next now
-leads_on number undo left next keys now table key was is after same untouched pushed leads rest are =
+    → now ≡ keys ++ key ∷ [] → Leads number undo left keys → Leads number undo next now
+leads_on number undo left next keys now table key was is after same pushed leads rest are =
     subst (λ (ks : List Value). AreKeysGiven number undo (ks ++ rest)) (sym pushed)
     (subst (λ (ks : List Value). AreKeysGiven number undo ks) (sym (append_assoc keys (key ∷ []) rest))
-    (leads (key ∷ rest) (one_more number left next table key was is after rest are same untouched)))
+    (leads (key ∷ rest) (one_more number left next table key was is after rest are same)))
 
 pub leads_past : (number : ℕ) (undo left next : Undo) (keys : List Value) (table : ℕ) (key : Value) (was : Was)
     → Some (table, key, was) ≡ given_as (take_back left).given → next ≡ (take_back left).after → table ≢ number

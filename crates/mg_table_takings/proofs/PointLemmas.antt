@@ -20,7 +20,7 @@ use Rattle.mg_core.specs.declared.parts.Core.{Core}
 use Rattle.mg_taking_back.specs.Taking.{GivesUpBy, HasBegun, IsUndoOf, not_asking}
 use Rattle.mg_taking_back.specs.CoreLaws.{with_same}
 use Rattle.mg_table_unmaking.specs.Rows.{FailsRowOut}
-use Rattle.mg_table_takings.specs.Keys.{AreRowsToTake}
+use Rattle.mg_table_takings.specs.Keys.{AreKeysGiven}
 use Rattle.mg_table_takings.specs.Takings.{FailsRows, FailsTablesFrom, FailsTablesTo, FailsTheRow, StopsBoth, TakesBoth, TakesOthers, TakesRows, TakesTablesFrom, TakesTablesTo, rows_unknown, stops_at_rows, tables_not_copied, tables_not_taken, tables_stopped}
 
 -- the same transactions have works
@@ -62,7 +62,7 @@ fault_told {D} m old new after t key fault refusal fails is names counts same = 
 -- ---- from the beginning of the event
 
 module _ {D : Type 0} (m : Meaning D) (begun : Core D) (works : List Working) (t : ℕ) (undo : Undo) (keys : List Value)
-    (rows : AreRowsToTake begun.catalog.pointer.0 undo keys) (unasks : works ≡ with_work t unasked begun.works) where
+    (rows : AreKeysGiven begun.catalog.pointer.0 undo keys) (unasks : works ≡ with_work t unasked begun.works) where
   not_asked : record begun { works = works } ≡ not_asking t begun
   not_asked = ap (λ (ws : List Working). record begun { works = ws }) unasks
 

@@ -19,7 +19,7 @@ use Rattle.mg_core.specs.Refusing.{CountsFault, IsRefusal, NamesLimit}
 use Rattle.mg_taking_back.specs.Changes.{FailsChange}
 use Rattle.mg_taking_back.specs.Taking.{Gives, GivesUpBy, HasBegun, MayReach, TakesChanges, not_asking}
 use Rattle.mg_table_unmaking.specs.Rows.{FailsRowOut, TakesRowOut}
-use Rattle.mg_table_takings.specs.Keys.{AreRowsToTake, others_of}
+use Rattle.mg_table_takings.specs.Keys.{AreKeysGiven, others_of}
 
 -- ---- the changes of other tables
 
@@ -100,7 +100,7 @@ works_left t end keys works =
 -- left of it is kept.
 pub record TakesTablesFrom {D : Type 0} (m : Meaning D) (begun new : Core D) (t : ℕ) (start : Undo) : Type 0 where
   pub keys : List Value
-  pub rows : AreRowsToTake begun.catalog.pointer.0 start keys
+  pub rows : AreKeysGiven begun.catalog.pointer.0 start keys
   pub taken : Core D
   pub end : Undo
   pub takes : TakesBoth m (not_asking t begun) taken t start end keys
@@ -111,7 +111,7 @@ pub record TakesTablesFrom {D : Type 0} (m : Meaning D) (begun new : Core D) (t 
 pub data FailsTablesFrom {D : Type 0} (m : Meaning D) (begun new : Core D) (t : ℕ) (start : Undo) (refusal : Refusal)
     : Type 0 where
   rows_unknown : refusal ≡ Memory → GivesUpBy begun new t refusal → FailsTablesFrom m begun new t start refusal
-  tables_stopped : (keys : List Value) (stopped : Core D) → AreRowsToTake begun.catalog.pointer.0 start keys
+  tables_stopped : (keys : List Value) (stopped : Core D) → AreKeysGiven begun.catalog.pointer.0 start keys
       → StopsBoth m (not_asking t begun) stopped t start keys refusal → GivesUpBy stopped new t refusal
       → FailsTablesFrom m begun new t start refusal
 

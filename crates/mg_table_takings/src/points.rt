@@ -5,7 +5,7 @@ ghost use Rattle.mg_base.specs.declared.transaction.TxState.TheVariants.{Active 
 ghost use Rattle.mg_core.specs.Cores.{Continues, IsCore};
 ghost use Rattle.mg_model.specs.declared.change.Point.{Point};
 ghost use Rattle.mg_model.specs.declared.change.Point.TheVariants.{LastMark};
-ghost use Rattle.mg_table_takings.specs.Keys.{AreRowsToTake};
+ghost use Rattle.mg_table_takings.specs.Keys.{AreKeysGiven};
 ghost use Rattle.mg_table_takings.specs.Takings.{FailsTablesFrom, FailsTablesTo, GoesBackOver, StopsBoth, TakesBoth, TakesTablesFrom, TakesTablesTo};
 ghost use Rattle.mg_txlist.specs.TxList.{said};
 
@@ -28,8 +28,7 @@ use mg_value::{Key, Name};
 ///
 /// # Errors
 ///
-/// As `undo_mark` of mg_taking_back. `Memory` also where the rows are not those of whole tables that the transaction has
-/// made, which no lawful engine meets.
+/// As `undo_mark` of mg_taking_back.
 pub fn undo_tables_to_mark<D: Disk>(core: &mut Core<D>, t: TxNo) -> Result<(), Refusal>
     requires core { IsCore D.meaning core.old }
     ensures core { IsCore D.meaning core.new }
@@ -121,7 +120,7 @@ fn take_with_rows<D: Disk>(
 ) -> Result<(), Refusal>
     requires core { IsCore D.meaning core.old }
     requires continues { Continues core.old t.0 }
-    requires rows { AreRowsToTake core.old.catalog.pointer.0 undo keys.now }
+    requires rows { AreKeysGiven core.old.catalog.pointer.0 undo keys.now }
     ensures core { IsCore D.meaning core.new }
     ensures takes { MatchResult result (λ _. TakesTablesFrom D.meaning core.old core.new t.0 undo)
         (FailsTablesFrom D.meaning core.old core.new t.0 undo) }

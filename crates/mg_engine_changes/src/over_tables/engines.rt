@@ -4,7 +4,7 @@ ghost use Rattle.mg_engine_changes.specs.EngineOver.{EnginesGoOver, OthersWalkOv
 
 use crate::{
     cores_take_all, cores_take_rows, keys_are_taken, keys_keep_lists, keys_keep_pages,
-    lists_tell_whole, others_walk_on, rows_are_given, tables_follow, tables_walks_go_on,
+    others_walk_on, rows_are_given, tables_follow, tables_walks_go_on,
 };
 use mg_base::Disk;
 use mg_engine_steps::{
@@ -31,7 +31,6 @@ pub fn engines_go_over<D: Disk>()
     pages_show_what_is_taken_back();
     what_was_is_given();
     rows_are_given();
-    lists_tell_whole();
     cores_take_all::<D>();
     keys_keep_lists::<D, FireLinks>();
     cores_take_rows::<D>();
