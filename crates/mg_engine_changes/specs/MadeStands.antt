@@ -126,18 +126,22 @@ columns_grow t name key place [] h last each = each
 columns_grow t name key place (c ∷ cs) h last each =
     columns_grow t name key (place + 1) cs (row_entry t (column_row name key place c) ∷ h)
     (last_row t name (column_row name key place c) h (ap (λ (n : List ℕ). same_name n name) (column_table name place)
-    ∙ same_name_itself name))
-    (or_true (not (same_name catalog_name catalog_name))
-    (comes_with_table t.0 (key_text (column_row name key place c)) h)
-    (ap (λ (n : List ℕ). last_makes t.0 n h) (column_table name place) ∙ last), each)
+    ∙ same_name_itself name)) (
+      or_true (not (same_name catalog_name catalog_name))
+          (comes_with_table t.0 (key_text (column_row name key place c)) h)
+          (ap (λ (n : List ℕ). last_makes t.0 n h) (column_table name place) ∙ last),
+      each,
+    )
 
 table_grows : (t : TxNo) (name : List ℕ) (shape : Shape) (h : Entries) → EachMakes h
     → EachMakes (with_rows t (rows_made name shape) h)
 table_grows t name shape h each = columns_grow t name shape.key 0 shape.columns
     (row_entry t (table_row (new_table name shape)) ∷ h)
-    (last_row t name (table_row (new_table name shape)) h (same_name_itself name))
-    (or_true (not (same_name catalog_name catalog_name))
-    (comes_with_table t.0 (key_text (table_row (new_table name shape))) h) refl, each)
+    (last_row t name (table_row (new_table name shape)) h (same_name_itself name)) (
+      or_true (not (same_name catalog_name catalog_name))
+          (comes_with_table t.0 (key_text (table_row (new_table name shape))) h) refl,
+      each,
+    )
 
 rows_bases : (o : Opening) (t : TxNo) (rows : List Cells) (h : Entries) → BasesAreLawful o h
     → BasesAreLawful o (with_rows t rows h)

@@ -1,6 +1,6 @@
 -- The keys of a table that are given, one after another.
 use Rattle.std.proofs.Common.{◌≡◌, ◌≢◌, ◌==◌, ◌++◌, ◌∷◌, ℕ, Bool, true, List, [], None, Some, ap, append_assoc, append-nil, cond, refl, subst, sym, ◌∙◌}
-use Rattle.std.proofs.lemmas.Bool.{eq-eqb, ne_eqb}
+use Rattle.std.proofs.lemmas.Bool.{eq-eqb, eqb-true, false≢true, ne_eqb}
 use Rattle.mg_value.specs.declared.value.Value.{Value}
 use Rattle.mg_undo.specs.Undo.{State as Undo, TakesBack, ends, gives, given_as, take_back}
 use Rattle.mg_undo.specs.declared.changes.Change.{Change}
@@ -76,6 +76,18 @@ pub leads_past : (number : ℕ) (undo left next : Undo) (keys : List Value) (tab
     → Leads number undo left keys → Leads number undo next keys
 leads_past number undo left next keys table key was is after other leads rest are =
     leads rest (none_more number left next table key was is after rest are other)
+
+-- a step more, whichever table it is of
+pub leads_step : (number : ℕ) (undo left next : Undo) (keys now : List Value) (table : ℕ) (key : Value) (was : Was)
+    → Some (table, key, was) ≡ given_as (take_back left).given → next ≡ (take_back left).after
+    → now ≡ cond (table == number) (keys ++ (key ∷ [])) keys → Leads number undo left keys → Leads number undo next now
+leads_step number undo left next keys now table key was is after noted leads = at (table == number) refl noted
+  where
+    at : (b : Bool) → (table == number) ≡ b → now ≡ cond b (keys ++ (key ∷ [])) keys → Leads number undo next now
+    at true same put = leads_on number undo left next keys now table key was is after (eqb-true table number same) put leads
+    at false off stays = subst (λ (ks : List Value). Leads number undo next ks) (sym stays)
+        (leads_past number undo left next keys table key was is after
+        (λ same. false≢true (sym off ∙ eq-eqb table number same)) leads)
 
 pub all_given : (number : ℕ) (undo left : Undo) (keys : List Value) → None ≡ given_as (take_back left).given
     → Leads number undo left keys → AreKeysGiven number undo keys

@@ -1,6 +1,6 @@
 //! Which rows of the catalog are taken back.
 
-ghost use Rattle.std.specs.Prelude.{IfOk};
+ghost use Rattle.std.specs.Prelude.{◌≡◌, ◌++◌, ◌∷◌, [], IfOk, OnOk, if◌then◌else◌};
 ghost use Rattle.mg_table_takings.specs.Keys.{AreKeysGiven};
 
 use mg_base::{Disk, Memory};
@@ -8,6 +8,20 @@ use mg_core::Core;
 use mg_undo::Undo;
 use mg_value::Key;
 use std::alloc::Global;
+
+/// Puts a key behind others, if it is one of theirs.
+///
+/// # Errors
+///
+/// `Memory` only.
+fn note_key(keys: &mut Vec<Key>, is_theirs: bool, key: Key) -> Result<(), Memory>
+    ensures { OnOk result (keys.new.items ≡ (if is_theirs then keys.old.items ++ (key ∷ []) else keys.old.items)) }
+{
+    if is_theirs {
+        keys.push(key)?;
+    }
+    Ok(())
+}
 
 /// The keys of a table that are given from a list on, in turn.
 ///
@@ -23,9 +37,7 @@ fn keys_given(undo: Undo, number: u32, alloc: Global) -> Result<Vec<Key>, Memory
     let mut keys = Vec::new(alloc);
     while let Some(change) = left.take_back() {
         let (table, key, _) = change;
-        if table == number {
-            keys.push(key)?;
-        }
+        note_key(&mut keys, table == number, key)?;
     }
     Ok(keys)
 }
