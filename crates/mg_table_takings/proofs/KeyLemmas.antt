@@ -1,5 +1,5 @@
 -- The keys of a table that are given, one after another.
-use Rattle.std.proofs.Common.{◌≡◌, ◌≢◌, ◌==◌, ◌++◌, ◌∷◌, ℕ, Bool, true, List, [], None, Some, ap, append_assoc, append-nil, cond, refl, subst, sym, ◌∙◌}
+use Rattle.std.proofs.Common.{◌≡◌, ◌≢◌, ◌==◌, ◌++◌, ◌∷◌, ℕ, Bool, true, false, List, [], None, Some, ap, append_assoc, append-nil, cond, refl, subst, sym, ◌∙◌}
 use Rattle.std.proofs.lemmas.Bool.{eq-eqb, eqb-true, false≢true, ne_eqb}
 use Rattle.mg_value.specs.declared.value.Value.{Value}
 use Rattle.mg_undo.specs.Undo.{State as Undo, TakesBack, ends, gives, given_as, take_back}
@@ -85,9 +85,9 @@ leads_step number undo left next keys now table key was is after noted leads = a
   where
     at : (b : Bool) → (table == number) ≡ b → now ≡ cond b (keys ++ (key ∷ [])) keys → Leads number undo next now
     at true same put = leads_on number undo left next keys now table key was is after (eqb-true table number same) put leads
-    at false off stays = subst (λ (ks : List Value). Leads number undo next ks) (sym stays)
+    at false off_ stays = subst (λ (ks : List Value). Leads number undo next ks) (sym stays)
         (leads_past number undo left next keys table key was is after
-        (λ same. false≢true (sym off ∙ eq-eqb table number same)) leads)
+        (λ same. false≢true (sym off_ ∙ eq-eqb table number same)) leads)
 
 pub all_given : (number : ℕ) (undo left : Undo) (keys : List Value) → None ≡ given_as (take_back left).given
     → Leads number undo left keys → AreKeysGiven number undo keys
