@@ -126,14 +126,15 @@ since_or_back (SavepointNamed its) (Saved name ∷ ds) key has =
 new_off : (left cs : List Change) (key : Value) → EachChange (IsNewTo left) cs
     → has_change cs catalog_name key ≡ true → has_change left catalog_name key ≡ false
 new_off left [] key each has = absurd (false≢true has)
-new_off left (c ∷ cs) key each has = at (is_at c catalog_name key) refl has
+new_off left (c ∷ cs) key each has = at (new_off left cs key each.1) (is_at c catalog_name key) refl has
   where
-    at : (b : Bool) → is_at c catalog_name key ≡ b → cond b true (has_change cs catalog_name key) ≡ true
+    at : (has_change cs catalog_name key ≡ true → has_change left catalog_name key ≡ false)
+        → (b : Bool) → is_at c catalog_name key ≡ b → cond b true (has_change cs catalog_name key) ≡ true
         → has_change left catalog_name key ≡ false
-    at true is has_ =
+    at behind true is has_ =
         let its = at_key c key is in
         subst (λ (k : Value). has_change left catalog_name k ≡ false) its.1 (each.0 its.0)
-    at false off has_ = new_off left cs key each.1 has_
+    at behind false off_ has_ = behind has_
 
 -- ---- the key of a column
 
@@ -151,15 +152,17 @@ module _ (name : List ℕ) (place : ℕ) where
       → has_change (changes_in ds) catalog_name (table_key name) ≡ true
   column_in [] are has = absurd (false≢true has)
   column_in (Changed c ∷ ds) are has = later (is_at c catalog_name (table_key name))
-      (has_change (changes_in ds) catalog_name (table_key name)) (at (is_at c catalog_name (column_key name place)) refl has)
+      (has_change (changes_in ds) catalog_name (table_key name))
+      (at (column_in ds are.1) (is_at c catalog_name (column_key name place)) refl has)
     where
-      at : (b : Bool) → is_at c catalog_name (column_key name place) ≡ b
+      at : (has_change (changes_in ds) catalog_name (column_key name place) ≡ true
+          → has_change (changes_in ds) catalog_name (table_key name) ≡ true) → (b : Bool) → is_at c catalog_name (column_key name place) ≡ b
           → cond b true (has_change (changes_in ds) catalog_name (column_key name place)) ≡ true
           → has_change (changes_in ds) catalog_name (table_key name) ≡ true
-      at true is has_ =
+      at behind true is has_ =
           let its = at_key c (column_key name place) is in
           last_in ds (table_key name) (its_table (since_last ds) c.key its.1 (are.0 its.0))
-      at false off has_ = column_in ds are.1 has_
+      at behind false off_ has_ = behind has_
   column_in (Marked ∷ ds) are has = column_in ds are has
   column_in (Saved saved ∷ ds) are has = column_in ds are has
 
@@ -169,15 +172,16 @@ module _ (name : List ℕ) (place : ℕ) where
   column_since point [] are has = absurd (false≢true has)
   column_since point (Changed c ∷ ds) are has = later (is_at c catalog_name (table_key name))
       (has_change (changes_since point ds) catalog_name (table_key name))
-      (at (is_at c catalog_name (column_key name place)) refl has)
+      (at (column_since point ds are.1) (is_at c catalog_name (column_key name place)) refl has)
     where
-      at : (b : Bool) → is_at c catalog_name (column_key name place) ≡ b
+      at : (has_change (changes_since point ds) catalog_name (column_key name place) ≡ true
+          → has_change (changes_since point ds) catalog_name (table_key name) ≡ true) → (b : Bool) → is_at c catalog_name (column_key name place) ≡ b
           → cond b true (has_change (changes_since point ds) catalog_name (column_key name place)) ≡ true
           → has_change (changes_since point ds) catalog_name (table_key name) ≡ true
-      at true is has_ =
+      at behind true is has_ =
           let its = at_key c (column_key name place) is in
           last_since point ds (table_key name) (its_table (since_last ds) c.key its.1 (are.0 its.0))
-      at false off has_ = column_since point ds are.1 has_
+      at behind false off_ has_ = behind has_
   column_since point (Marked ∷ ds) are has = at (is_point point Marked) has (column_since point ds are)
     where
       at : (b : Bool) → has_change (cond b [] (changes_since point ds)) catalog_name (column_key name place) ≡ true
@@ -263,15 +267,15 @@ among_has (c ∷ cs) key = at (same_name c.table catalog_name) (same_key c.key k
 each_has : (left cs : List Change) (key : Value) → EachChange (λ c. has_change left c.table c.key ≡ true) cs
     → has_change cs catalog_name key ≡ true → has_change left catalog_name key ≡ true
 each_has left [] key each has = absurd (false≢true has)
-each_has left (c ∷ cs) key each has = at (is_at c catalog_name key) refl has
+each_has left (c ∷ cs) key each has = at (each_has left cs key each.1) (is_at c catalog_name key) refl has
   where
-    at : (b : Bool) → is_at c catalog_name key ≡ b → cond b true (has_change cs catalog_name key) ≡ true
+    at : (has_change cs catalog_name key ≡ true → has_change left catalog_name key ≡ true) → (b : Bool) → is_at c catalog_name key ≡ b → cond b true (has_change cs catalog_name key) ≡ true
         → has_change left catalog_name key ≡ true
-    at true is has_ =
+    at behind true is has_ =
         let its = at_key c key is in
         subst (λ (n : List ℕ). has_change left n key ≡ true) its.0
         (subst (λ (k : Value). has_change left c.table k ≡ true) its.1 each.0)
-    at false off has_ = each_has left cs key each.1 has_
+    at behind false off_ has_ = behind has_
 
 -- what a transaction takes back to a point, the first change of each key
 pub keys_go_whole : (point : Point) (ds : List Deed) → AreTogether ds → AreMadeOnce (changes_in ds)

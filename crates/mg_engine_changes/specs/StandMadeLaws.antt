@@ -18,7 +18,7 @@ use Rattle.mg_pointer.specs.PointerPageLaws.{new_page_empty, new_page_next, new_
 use Rattle.mg_image.specs.Catalog.{catalog_table}
 use Rattle.mg_image.specs.Form.{Form, Pages, Row}
 use Rattle.mg_image.specs.Indexes.{AreTrees, EachPage, IsFoundIn}
-use Rattle.mg_image.specs.Inventory.{last_sequence, tip_page}
+use Rattle.mg_image.specs.Inventory.{is_used, last_sequence, tip_page}
 use Rattle.mg_image.specs.KeptPageLaws.{table_pages_kept}
 use Rattle.mg_image.specs.Reached.{linked_pages, tips_below, tips_of}
 use Rattle.mg_image.specs.Records.{Reading}
