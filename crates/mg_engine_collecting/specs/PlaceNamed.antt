@@ -18,7 +18,7 @@ use Rattle.mg_engine_steps.specs.Standing.{ShowsHistory}
 use Rattle.mg_heap.specs.Listed.{IsRecordOf}
 use Rattle.mg_heap.specs.ListedLaws.{page_of_record}
 use Rattle.mg_heap.specs.Stands.{TablesAreWalked}
-use Rattle.mg_image.specs.Catalog.{IsNamed, IsSameTable, MayStandIn, StaysAmong}
+use Rattle.mg_image.specs.Catalog.{IsNamed, IsSameTable, MayStandIn}
 use Rattle.mg_image.specs.Form.{Pages, packed_form}
 use Rattle.mg_image.specs.ReadingLaws.{Opens, chain_opens}
 use Rattle.mg_image.specs.RecordRules.{Each, EachBack, Facts}
@@ -44,13 +44,6 @@ use Rattle.mg_version.specs.declared.cell.Version.{Version}
 use Rattle.mg_works.specs.Works.{Working, given_by, given_to, work_of}
 use Rattle.mg_engine_collecting.specs.CoreStays.{HasInNamed}
 use Rattle.mg_engine_collecting.specs.StepKeeps.{committed_is}
-
--- one of some tables is another one, but for its indexes
-same_among : (tables : List Table) (table : Table) → StaysAmong tables table
-    → (its : Table) × IsOneOf tables its × IsSameTable its table
-same_among [] table none = absurd none
-same_among (other ∷ tables) table (inl same) = (other, inl refl, same)
-same_among (other ∷ tables) table (inr more) = let it = same_among tables table more in (it.0, inr it.1, it.2)
 
 -- a table that was given was given to one who works
 pub given_works : (works : List Working) (t : ℕ) (name : List ℕ) (table : Table) → given_to works t name ≡ Some table
@@ -155,8 +148,11 @@ module _ (walked : TablesAreWalked) {D : Type 0} (m : Meaning D) (core : Core D)
 
       found : (its : Table) × IsOneOf (map (λ (stand : Stand). stand.table) shows.layout.tables) its
           × IsSameTable its table
-      found = same_among (map (λ (stand : Stand). stand.table) shows.layout.tables) table
-          ((shows.tables t active).seen table.name table (stands.given t table.name table given))
+      found = (
+        table,
+        (shows.tables t active).seen table.name table (stands.given t table.name table given),
+        record { name = refl; shape = refl; pointer = refl },
+      )
 
       there : IsTableOf shows.layout found.0
       there = stands_in shows.layout found.0 (inr found.1)

@@ -223,8 +223,7 @@ module _ (one : RowsAreOne packed_coding) (one_way : StandsOneWay packed_form) (
   placed_each chosen layout q sound = placed packed_form one size s.state pool shows.layout shows.reading shows.sound
       chosen layout q sound table there
       (stands_by_committed one size s.state pool shows.layout shows.reading shows.sound chosen layout q sound
-      (λ x is_. (plain everyone shows.layout shows.reading shows.sound x is_).no_index)
-      (λ x is_. (plain chosen layout q sound x is_).no_index) table there here.named.place here.named.row (record {
+      (plain.agree everyone chosen shows.layout layout shows.reading q shows.sound sound) table there here.named.place here.named.row (record {
         of_table = here.named.shows.of_table;
         row_shown = ap (λ (c : ℕ → Bool). shown_row c (shows.reading here.named.place)) (fun_ext (committed_only f))
             ∙ here.named.shows.row_shown;
