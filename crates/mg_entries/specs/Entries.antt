@@ -79,6 +79,13 @@ pub data LaysAll {D : Type 0} (m : Meaning D) : List Index → RecId → Row →
       → LaysAll m indexes p row before mid → LaysEntry m mid after index.root.0 (index_entry index p row)
       → LaysAll m (indexes ++ index ∷ []) p row before after
 
+-- The entries are laid in some of these indexes, and the rest are to come.
+pub record IsLaying {D : Type 0} (m : Meaning D) (indexes rest : List Index) (p : RecId) (row : Row)
+    (before now : Pool D FireLinks) : Type 0 where
+  pub first : List Index
+  pub parts : indexes ≡ first ++ rest
+  pub laid : LaysAll m first p row before now
+
 -- They are laid in the first of these indexes, and in the next one the entry is not.
 pub record FailsAll {D : Type 0} (m : Meaning D) (indexes : List Index) (p : RecId) (row : Row)
     (before after : Pool D FireLinks) (fault : SpaceFault) : Type 0 where

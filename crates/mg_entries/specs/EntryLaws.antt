@@ -19,14 +19,7 @@ use Rattle.mg_btree.specs.Changing.{HasNoInventory}
 use Rattle.mg_btree.specs.Inserting.{PutsAndTakes}
 use Rattle.mg_btree.specs.SearchLaws.{viewed_same}
 use Rattle.mg_row_writes.specs.Changing.{ChangesBatch, FailsBatch, not_changed, nothing_yet}
-use Rattle.mg_entries.specs.Entries.{FailsAll, FailsEntry, LaysAll, LaysEntry, PutsEntry}
-
--- The entries are laid in some of these indexes, and the rest are to come.
-pub record IsLaying {D : Type 0} (m : Meaning D) (indexes rest : List Index) (p : RecId) (row : Row)
-    (before now : Pool D FireLinks) : Type 0 where
-  pub first : List Index
-  pub parts : indexes ≡ first ++ rest
-  pub laid : LaysAll m first p row before now
+use Rattle.mg_entries.specs.Entries.{FailsAll, FailsEntry, IsLaying, LaysAll, LaysEntry, PutsEntry}
 
 pub laying_starts : {D : Type 0} (m : Meaning D) (indexes : List Index) (p : RecId) (row : Row) (store : Pool D FireLinks)
     → IsLaying m indexes indexes p row store store

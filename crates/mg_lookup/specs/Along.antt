@@ -1,5 +1,5 @@
 -- A walk along the entries of a key.
-use Rattle.std.specs.Prelude.{◌≡◌, ◌⊎◌, ◌<◌, ◌+◌, ◌*◌, ℕ, List, Option, None, Some, IfSome}
+use Rattle.std.specs.Prelude.{◌≡◌, ◌⊎◌, ◌<◌, ◌+◌, ◌*◌, ℕ, List, Option, None, Some, IfSome, Result}
 use Rattle.mg_base.specs.Disk.{Meaning}
 use Rattle.mg_base.specs.Image.{Image}
 use Rattle.mg_base.specs.declared.numbers.RecId.{RecId}
@@ -10,9 +10,11 @@ use Rattle.mg_node.specs.NodePage.{IsBelow}
 use Rattle.mg_pool.specs.Fault.{MeetsNoFault}
 use Rattle.mg_pool.specs.declared.pool.Pool.{Pool}
 use Rattle.mg_space.specs.View.{KeepsStore, Tells, viewed}
+use Rattle.mg_space.specs.declared.fault.SpaceFault.{SpaceFault}
 use Rattle.mg_seek.specs.TableRecords.{IsAmong}
 use Rattle.mg_btree.specs.Changing.{IsLeaf}
-use Rattle.mg_btree.specs.Ranges.{ScansFrom, no_pages}
+use Rattle.mg_btree.specs.Ranges.{ScansFrom, StepsOn, no_pages}
+use Rattle.mg_btree.specs.declared.range.Step.{Step}
 use Rattle.mg_btree.specs.declared.range.Walk.{Walk}
 use Rattle.mg_lookup.specs.Records.{HasItsEntry, entry_of}
 
@@ -51,3 +53,9 @@ pub record IsAlong {D L : Type 0} (m : Meaning D) (old new : Pool D L) (first : 
   pub met : (image : Image) (owner root : ℕ) (levels : List (List ℕ)) → Tells m old.disk image
       → ScansFrom old.geometry.size (viewed old image no_pages) owner root levels key None first.leaf
       → AreMet (viewed old image no_pages) root key found last
+
+-- what a step of a walk tells of a tree
+abbrev pub TellsSteps : {D L : Type 0} → Meaning D → Pool D L → List ℕ → Option Entry → Walk → Result Step SpaceFault → Type 0
+TellsSteps m a key last walk result = (image : Image) (owner root : ℕ) (levels : List (List ℕ)) → Tells m a.disk image
+    → ScansFrom a.geometry.size (viewed a image no_pages) owner root levels key last walk.leaf
+    → StepsOn a.geometry.size (viewed a image no_pages) owner root levels key last walk.leaf result

@@ -32,7 +32,7 @@ use Rattle.mg_btree.specs.Reading.{Reads}
 use Rattle.mg_btree.specs.SearchLaws.{viewed_same}
 use Rattle.mg_btree.specs.declared.range.Step.{Step}
 use Rattle.mg_btree.specs.declared.range.Walk.{Walk}
-use Rattle.mg_lookup.specs.Along.{AreMet, IsAlong, IsOfKey, floor_of, rank_of}
+use Rattle.mg_lookup.specs.Along.{AreMet, IsAlong, IsOfKey, TellsSteps, floor_of, rank_of}
 use Rattle.mg_lookup.specs.Records.{AreNamed, HasItsEntry, NamesRecords, entry_of}
 
 -- ---- the order of the entries of a key
@@ -169,12 +169,6 @@ module _ (view : Pages) (root : ℕ) (key : List ℕ) (found : List RecId) (last
       of p (inr is) = record { entry = e; finds = next.0; key_is = same; rec_is = sym is }
 
 -- ---- the walk
-
--- what a step of a walk tells of a tree
-abbrev pub TellsSteps : {D L : Type 0} → Meaning D → Pool D L → List ℕ → Option Entry → Walk → Result Step SpaceFault → Type 0
-TellsSteps m a key last walk result = (image : Image) (owner root : ℕ) (levels : List (List ℕ)) → Tells m a.disk image
-    → ScansFrom a.geometry.size (viewed a image no_pages) owner root levels key last walk.leaf
-    → StepsOn a.geometry.size (viewed a image no_pages) owner root levels key last walk.leaf result
 
 -- nothing was met yet
 pub along_starts : {D L : Type 0} (m : Meaning D) (store : Pool D L) (walk : Walk) (key : List ℕ) → IsPool m store

@@ -1,7 +1,6 @@
 use Rattle.std.proofs.Common.{◌≡◌, length}
 use Rattle.mg_pool.specs.Pool.{IsPool}
-use Rattle.mg_entries.specs.Entries.{KeysFit}
-use Rattle.mg_entries.specs.EntryLaws.{IsLaying}
+use Rattle.mg_entries.specs.Entries.{IsLaying, KeysFit}
 use Rattle.mg_entries.proofs.laying.lay_entries.Given as goal
 
 abbrev pub invariant-loop-index : goal.invariant-loop-index

@@ -4,8 +4,8 @@ use Rattle.mg_node.specs.declared.entry.Entry.{Entry}
 use Rattle.mg_btree.specs.ExitLaws.{reads_memory, reads_ok}
 use Rattle.mg_btree.specs.ScanLaws.{reads_err}
 use Rattle.mg_btree.specs.declared.range.Step.{Step}
-use Rattle.mg_lookup.specs.Along.{rank_of}
-use Rattle.mg_lookup.specs.AlongLaws.{TellsSteps, along_as, along_ends, along_next, along_reads, along_refused, found_behind, rank_rises}
+use Rattle.mg_lookup.specs.Along.{TellsSteps, rank_of}
+use Rattle.mg_lookup.specs.AlongLaws.{along_as, along_ends, along_next, along_reads, along_refused, found_behind, rank_rises}
 use Rattle.mg_lookup.proofs.entries.named_along.Goals as goal
 
 pub returns-in_err-next-clause-reads : goal.returns-in_err-next-clause-reads
