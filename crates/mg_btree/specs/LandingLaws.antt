@@ -1,10 +1,11 @@
 -- Laws of where a search along a level goes on.
-use Rattle.std.proofs.Common.{◌≡◌, ◌∙◌, ap, refl, sym, subst, ◌+◌, ℕ, List, Option, Result, Ok, Err}
+use Rattle.std.proofs.Common.{◌≡◌, ◌∙◌, ap, refl, sym, subst, ◌<◌, ◌+◌, ℕ, List, Option, Result, Ok, Err}
 use Rattle.std.specs.Prelude.{IfSome, IsErrAnd}
 use Rattle.mg_base.specs.Disk.{Meaning}
 use Rattle.mg_base.specs.Image.{Image}
 use Rattle.mg_base.specs.declared.damage.Damaged.{Damaged}
 use Rattle.mg_base.specs.declared.numbers.PageNo.{PageNo}
+use Rattle.mg_base.specs.declared.geometry.Geometry.{Geometry}
 use Rattle.mg_node.specs.declared.entry.Entry.{Entry}
 use Rattle.mg_node.specs.NodePage.{IsAtLeast, IsBelow, low_of}
 use Rattle.mg_image.specs.Form.{Pages}
@@ -43,6 +44,14 @@ module _ {D L : Type 0} (m : Meaning D) (old a : Pool D L) (batch : Changed) (ow
         from = subst (λ (low : Option Entry). IfSome low (λ fence. IsAtLeast e fence)) is.says.low from;
         below = subst (λ (high : Option Entry). IfSome high (λ fence. IsBelow e fence)) is.says.high below;
       })
+
+  -- it lies below the page limit, as the page that was read does
+  pub here_below : (found : ReadNode) → LandsAt read e (Here found) → at < a.geometry.limit
+      → found.page.0 < old.geometry.limit
+  here_below found (same, from, below) low =
+      subst (λ (g : Geometry). found.page.0 < g.limit) way.keeps.geometry
+      (subst (λ (n : ℕ). n < a.geometry.limit)
+      (sym (ap (λ (r : ReadNode). r.page.0) same ∙ is.number)) low)
 
   -- and is one of the tree
   pub here_comes : (found : ReadNode) → LandsAt read e (Here found)

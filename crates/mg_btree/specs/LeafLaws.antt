@@ -1,7 +1,6 @@
 -- Laws of the leaf that a search comes to, and of what a call does to it.
-use Rattle.std.proofs.Common.{◌≡◌, ◌≢◌, ◌⊎◌, inl, inr, ◌∙◌, ap, refl, sym, subst, arith, ◌+◌, ◌≤◌, ℕ, Bool, true, false, List, Some, None, length, Result, Ok, Err}
+use Rattle.std.proofs.Common.{◌≡◌, ◌≢◌, inl, inr, ◌∙◌, ap, refl, sym, subst, arith, ◌+◌, ◌≤◌, ◌<◌, ℕ, Bool, true, false, List, Some, None, length, Result, Ok, Err}
 use Rattle.std.specs.Prelude.{IfOk, IfSome, IsErrAnd}
-use Rattle.std.proofs.lemmas.Bool.{cases_eq}
 use Rattle.mg_base.specs.Disk.{Meaning}
 use Rattle.mg_base.specs.Image.{Image}
 use Rattle.mg_node.specs.declared.entry.Entry.{Entry}
@@ -10,10 +9,11 @@ use Rattle.mg_base.specs.Checks.{PassesAll}
 use Rattle.mg_image.specs.Form.{Pages}
 use Rattle.mg_image.specs.Indexes.{Finds, HasEntry, IsTree}
 use Rattle.mg_node_writing.specs.NodeChanges.{IsEntryOf, RemovesEntry}
-use Rattle.mg_pool.specs.Batch.{Changed, PutsPage, content_in, lists}
+use Rattle.mg_pool.specs.Batch.{Changed, content_in, lists}
 use Rattle.mg_pool.specs.declared.pool.Pool.{Pool}
 use Rattle.mg_space.specs.View.{AreWhole, KeepsStore, Tells, viewed}
-use Rattle.mg_space.specs.ViewLaws.{tells_on}
+use Rattle.mg_space.specs.ViewLaws.{tells_on, whole_on}
+use Rattle.mg_base.specs.declared.geometry.Geometry.{Geometry}
 use Rattle.mg_space.specs.declared.fault.SpaceFault.{SpaceFault}
 use Rattle.mg_space.specs.declared.fault.SpaceFault.TheVariants.{Full, Pool as OfPool, Damaged as OfPage}
 use Rattle.mg_tree_overlays.specs.TreeSteps.{InTree, Rewrites}
@@ -112,25 +112,13 @@ leaf_seen m old a batch page e top result keeps root_is reached comes image owne
 
 -- ---- an entry is taken out
 
-pub whole_put : (size : ℕ) (old new : Changed) (n : ℕ) (bytes : List ℕ) → AreWhole size old.pages
-    → PutsPage old new n bytes → length bytes ≡ size → AreWhole size new.pages
-whole_put size old new n bytes whole puts len page content is = at (cases_eq page n)
-  where
-    at : (page ≡ n) ⊎ (page ≢ n) → length content ≡ size
-    at (inl same) =
-        let both : Some bytes ≡ Some content =
-        sym puts.here ∙ (ap (content_in new.pages) (sym same) ∙ is) in
-        let one : bytes ≡ content = cc in
-        ap length (sym one) ∙ len
-    at (inr other) = whole page content (sym (puts.others page other) ∙ is)
-
-pub whole_without : (size : ℕ) (old new : Changed) (read : ReadNode) (e : Entry) (was : Bool)
-    → AreWhole size old.pages → length read.bytes ≡ size → PutsOrStays old new read e was
-    → AreWhole size new.pages
-whole_without size old new read e true whole len is =
-    whole_put size old new read.page.0 is.bytes whole is.puts (is.len ∙ len)
-whole_without size old new read e false whole len is =
-    subst (λ (b : Changed). AreWhole size b.pages) (sym is.1) whole
+pub whole_without : (g : Geometry) (old new : Changed) (read : ReadNode) (e : Entry) (was : Bool)
+    → AreWhole g old.pages → length read.bytes ≡ g.size → read.page.0 < g.limit
+    → PutsOrStays old new read e was → AreWhole g new.pages
+whole_without g old new read e true whole len below is =
+    whole_on g old new read.page.0 is.bytes whole (is.len ∙ len) below is.puts
+whole_without g old new read e false whole len below is =
+    subst (λ (b : Changed). AreWhole g b.pages) (sym is.1) whole
 
 pub orders_without : (old new : Changed) (read : ReadNode) (e : Entry) (was : Bool)
     → PutsOrStays old new read e was → new.orders ≡ old.orders

@@ -48,3 +48,4 @@ pub mod ClimbLaws
 pub mod OnPage
 pub mod OnPageLaws
 pub mod PassLaws
+pub mod BelowLaws

@@ -11,11 +11,11 @@ use Rattle.mg_pool.specs.Batch.{Changed, PutsPage, content_in, is_in, lists}
 use Rattle.mg_pool.specs.declared.batch.BatchPage.{BatchPage}
 use Rattle.mg_pool.specs.declared.pool.Pool.{Pool}
 use Rattle.mg_space.specs.Taking.{PutsInventory}
-use Rattle.mg_space.specs.View.{AreWhole, viewed}
-use Rattle.mg_space.specs.ViewLaws.{viewed_else, viewed_here, whole_on}
+use Rattle.mg_space.specs.View.{viewed}
+use Rattle.mg_space.specs.ViewLaws.{viewed_else, viewed_here}
 use Rattle.mg_base.specs.declared.geometry.Geometry.{Geometry}
 use Rattle.mg_tree_overlays.specs.TreeBatches.{OrdersRoot, OrdersSplit, inventory_of}
-use Rattle.mg_btree.specs.Ordering.{AddsOrders, PutsThree, Widens, before, orders_for, orders_to, root_orders, split_orders}
+use Rattle.mg_btree.specs.Ordering.{AddsOrders, AreLong, PutsThree, Widens, before, orders_for, orders_to, root_orders, split_orders}
 use Rattle.mg_btree.specs.Rooms.{TakesAlone}
 use Rattle.mg_btree.specs.SplitRows.{with_here, with_other, with_page}
 
@@ -121,10 +121,23 @@ some_put : (old new : Changed) (page : ℕ) (bytes : List ℕ) → PutsPage old 
 some_put old new page bytes puts none =
     let both : Some bytes ≡ None = sym puts.here ∙ none in absurd cc
 
+-- a content of one page more
+pub long_put : (size : ℕ) (old new : Changed) (n : ℕ) (bytes : List ℕ) → AreLong size old.pages
+    → PutsPage old new n bytes → length bytes ≡ size → AreLong size new.pages
+long_put size old new n bytes whole puts len page content is = at (cases_eq page n)
+  where
+    at : (page ≡ n) ⊎ (page ≢ n) → length content ≡ size
+    at (inl same) =
+        let both : Some bytes ≡ Some content =
+        sym puts.here ∙ (ap (content_in new.pages) (sym same) ∙ is) in
+        let one : bytes ≡ content = cc in
+        ap length (sym one) ∙ len
+    at (inr other) = whole page content (sym (puts.others page other) ∙ is)
+
 pub widens_put : (old new : Changed) (page : ℕ) (bytes : List ℕ) → PutsPage old new page bytes
     → Widens (length bytes) old new
 widens_put old new page bytes puts = record {
-  whole = λ whole. whole_on (length bytes) old new page bytes whole refl puts;
+  whole = λ whole. long_put (length bytes) old new page bytes whole puts refl;
   has = λ n some. at n some (cases_eq n page);
   ordered = λ a b is. subst (λ (os : List Order). lists os a b ≡ true) (sym puts.same_orders) is;
 }
@@ -142,7 +155,7 @@ widens_sized size old new len same widens = subst (λ (k : ℕ). Widens k old ne
 pub widens_orders : (size : ℕ) (old new : Changed) (more : List Order) → new.pages ≡ old.pages
     → new.orders ≡ old.orders ++ more → Widens size old new
 widens_orders size old new more pages orders = record {
-  whole = λ whole. subst (λ (ps : List BatchPage). AreWhole size ps) (sym pages) whole;
+  whole = λ whole. subst (λ (ps : List BatchPage). AreLong size ps) (sym pages) whole;
   has = λ n some. subst (λ (ps : List BatchPage). content_in ps n ≢ None) (sym pages) some;
   ordered = λ a b is. subst (λ (os : List Order). lists os a b ≡ true) (sym orders)
       (lists_left old.orders more a b is);

@@ -1,9 +1,9 @@
 -- The orders of page writes of a split, and of a root that splits.
-use Rattle.std.specs.Prelude.{◌≡◌, ◌≢◌, ℕ, true, List, [], ◌∷◌, ◌++◌, None}
+use Rattle.std.specs.Prelude.{◌≡◌, ◌≢◌, ℕ, true, List, [], ◌∷◌, ◌++◌, length, None, Some}
 use Rattle.mg_base.specs.declared.numbers.PageNo.{PageNo}
 use Rattle.mg_careful.specs.declared.graph.Order.{Order}
 use Rattle.mg_pool.specs.Batch.{Changed, PutsPage, content_in, lists}
-use Rattle.mg_space.specs.View.{AreWhole}
+use Rattle.mg_pool.specs.declared.batch.BatchPage.{BatchPage}
 use Rattle.mg_tree_overlays.specs.TreeBatches.{inventory_of}
 
 -- a page is to be written before another
@@ -40,9 +40,14 @@ pub record AddsOrders (old new : Changed) (orders : List Order) : Type 0 where
   pub same_pages : new.pages ≡ old.pages
   pub added : new.orders ≡ old.orders ++ orders
 
+-- each content of a batch is one page long
+abbrev pub AreLong : ℕ → List BatchPage → Type 0
+AreLong size pages = (page : ℕ) (bytes : List ℕ) → content_in pages page ≡ Some bytes
+    → length bytes ≡ size
+
 -- A batch has the pages and the orders of an older one, and its contents are one page long still.
 pub record Widens (size : ℕ) (old new : Changed) : Type 0 where
-  pub whole : AreWhole size old.pages → AreWhole size new.pages
+  pub whole : AreLong size old.pages → AreLong size new.pages
   pub has : (n : ℕ) → content_in old.pages n ≢ None → content_in new.pages n ≢ None
   pub ordered : (a b : ℕ) → lists old.orders a b ≡ true → lists new.orders a b ≡ true
 

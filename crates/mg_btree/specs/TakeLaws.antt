@@ -78,7 +78,7 @@ module _ (g : Geometry) (lawful : IsGeometry g) (owner root : ℕ) (levels : Lis
   taken_none m = takes.free.no_inventory (m / bits g.size)
 
   pub taken_below : n < GREATEST_LIMIT
-  taken_below = let below = takes.free.below in let most = lawful.limit in omega arith
+  taken_below = let below = takes.free.below in omega (arith, below)
 
   -- the step of its inventory page
   pub taken_room : (batch : ℕ → Option (List ℕ)) (orders : Orders) (change : EntryChange) (last : Pages)

@@ -49,7 +49,7 @@ pub(crate) fn take_two<D: Disk>(
 ) -> Result<TwoPages, SpaceFault>
     requires pool { IsPool D.meaning store.old }
     requires geometry { IsGeometry store.old.geometry }
-    requires whole { AreWhole store.old.geometry.size batch.old.pages }
+    requires whole { AreWhole store.old.geometry batch.old.pages }
 
     ensures reads { Reads D.meaning store.old store.new result }
     ensures widens { Widens store.old.geometry.size batch.old batch.new }
@@ -57,6 +57,9 @@ pub(crate) fn take_two<D: Disk>(
         → TakesTwo store.old.geometry (viewed store.old image batch.old)
         (viewed store.old image batch.new) batch.new result }
     ensures alone { OnOk result (TakesAlone 2 batch.old batch.new) }
+    ensures whole { OnOk result (AreWhole store.old.geometry batch.new.pages) }
+    ensures first { IfOk result (λ two. two.first.0 < store.old.geometry.limit) }
+    ensures second { IfOk result (λ two. two.second.0 < store.old.geometry.limit) }
 {
     let first = take_page(store, batch)?;
     let second = take_page(store, batch)?;

@@ -1,6 +1,6 @@
 //! Putting an entry into a tree.
 
-ghost use Rattle.std.specs.Prelude.{◌≡◌, ◌≤◌, ◌/◌, IfOk, List, None, Ok as Fine, OnErr, OnOk, length, ℕ};
+ghost use Rattle.std.specs.Prelude.{◌≡◌, ◌≤◌, ◌/◌, IfOk, List, None, Ok as Fine, OnErr, OnOk, length, ℕ, ◌<◌};
 ghost use Rattle.mg_base.specs.Image.{Image};
 ghost use Rattle.mg_image.specs.Indexes.{IsTree};
 ghost use Rattle.mg_node.specs.NodePage.{IsNodePage, level_in};
@@ -54,12 +54,13 @@ pub fn insert<D: Disk>(
 ) -> Result<(), SpaceFault>
     requires pool { IsPool D.meaning store.old }
     requires geometry { IsGeometry store.old.geometry }
-    requires whole { AreWhole store.old.geometry.size batch.old.pages }
+    requires whole { AreWhole store.old.geometry batch.old.pages }
     requires short { length e.now.key ≤ store.old.geometry.size / 8 }
     requires child { e.now.child.0 ≡ 0 }
 
     ensures reads { Reads D.meaning store.old store.new result }
     ensures widens { Widens store.old.geometry.size batch.old batch.new }
+    ensures whole { OnOk result (AreWhole store.old.geometry batch.new.pages) }
     ensures inserts { (image : Image) (owner : ℕ) (levels : List (List ℕ))
         → Tells D.meaning store.old.disk image
         → IsTree store.old.geometry.size (viewed store.old image batch.old) owner root.0 levels
@@ -84,11 +85,12 @@ fn find_leaf<D: Disk>(
 ) -> Result<Leaf, SpaceFault>
     requires pool { IsPool D.meaning store.old }
     requires geometry { IsGeometry store.old.geometry }
-    requires whole { AreWhole store.old.geometry.size batch.now.pages }
+    requires whole { AreWhole store.old.geometry batch.now.pages }
 
     ensures reads { Reads D.meaning store.old store.new result }
     ensures reached { IfOk result (λ leaf.
         IsReached store.old.geometry.size leaf.top.owner 0 e.now leaf.read) }
+    ensures below { IfOk result (λ leaf. leaf.read.page.0 < store.old.geometry.limit) }
     ensures finds { (image : Image) (owner : ℕ) (levels : List (List ℕ))
         → Tells D.meaning store.old.disk image
         → IsTree store.old.geometry.size (viewed store.old image batch.now) owner root.0 levels
@@ -113,14 +115,16 @@ fn put_at<D: Disk>(
 ) -> Result<(), SpaceFault>
     requires pool { IsPool D.meaning store.old }
     requires geometry { IsGeometry store.old.geometry }
-    requires whole { AreWhole store.old.geometry.size batch.old.pages }
+    requires whole { AreWhole store.old.geometry batch.old.pages }
     requires online { store.old.offline ≡ None }
     requires short { length e.now.key ≤ store.old.geometry.size / 8 }
     requires child { e.now.child.0 ≡ 0 }
     requires reached { IsReached store.old.geometry.size leaf.top.owner 0 e.now leaf.read }
+    requires below { leaf.read.page.0 < store.old.geometry.limit }
 
     ensures reads { Reads D.meaning store.old store.new result }
     ensures widens { Widens store.old.geometry.size batch.old batch.new }
+    ensures whole { OnOk result (AreWhole store.old.geometry batch.new.pages) }
     ensures inserts { (image : Image) (owner root : ℕ) (levels : List (List ℕ))
         → Tells D.meaning store.old.disk image
         → IsTree store.old.geometry.size (viewed store.old image batch.old) owner root levels

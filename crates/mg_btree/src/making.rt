@@ -53,14 +53,17 @@ pub(crate) fn make_room<D: Disk>(
 ) -> Result<PageBytes, SpaceFault>
     requires pool { IsPool D.meaning store.old }
     requires geometry { IsGeometry store.old.geometry }
-    requires whole { AreWhole store.old.geometry.size batch.old.pages }
+    requires whole { AreWhole store.old.geometry batch.old.pages }
     requires online { store.old.offline ≡ None }
     requires lower { level ≤ top.level }
     requires place { IsPlaceFor store.old.geometry.size top.owner level e.now full }
+    requires below { full.page.0 < store.old.geometry.limit }
     requires short { length e.now.key ≤ store.old.geometry.size / 8 }
 
     ensures reads { Reads D.meaning store.old store.new result }
     ensures widens { Widens store.old.geometry.size batch.old batch.new }
+    ensures whole { OnOk result (AreWhole store.old.geometry batch.new.pages) }
+    ensures half { IfOk result (λ half. half.page.0 < store.old.geometry.limit) }
     ensures roomy { IfOk result (IsRoomy store.old.geometry.size top.owner level e.now) }
     ensures in_place { HasRoom full.bytes e.now → (result ≡ Fine full) × (batch.new ≡ batch.old) }
     ensures makes { (image : Image) (levels : List (List ℕ)) → Tells D.meaning store.old.disk image
@@ -106,7 +109,7 @@ fn take_above<D: Disk>(
 ) -> Result<Split, SpaceFault>
     requires pool { IsPool D.meaning store.old }
     requires geometry { IsGeometry store.old.geometry }
-    requires whole { AreWhole store.old.geometry.size batch.old.pages }
+    requires whole { AreWhole store.old.geometry batch.old.pages }
     requires lower { level < top.level }
     requires len { length full.bytes ≡ store.old.geometry.size }
     requires lawful { IsNodePage full.bytes }
@@ -114,6 +117,9 @@ fn take_above<D: Disk>(
 
     ensures reads { Reads D.meaning store.old store.new result }
     ensures widens { Widens store.old.geometry.size batch.old batch.new }
+    ensures whole { OnOk result (AreWhole store.old.geometry batch.new.pages) }
+    ensures right { IfOk result (λ split. split.halves.right.page.0 < store.old.geometry.limit) }
+    ensures above { IfOk result (λ split. split.above.page.0 < store.old.geometry.limit) }
     ensures split { IfOk result (IsSplit store.old.geometry.size top.owner level full) }
     ensures alone { OnOk result (TakesAlone 1 batch.old batch.new) }
     ensures takes { (image : Image) (levels : List (List ℕ)) → Tells D.meaning store.old.disk image
@@ -148,13 +154,15 @@ fn take_right<D: Disk>(
 ) -> Result<Halves, SpaceFault>
     requires pool { IsPool D.meaning store.old }
     requires geometry { IsGeometry store.old.geometry }
-    requires whole { AreWhole store.old.geometry.size batch.old.pages }
+    requires whole { AreWhole store.old.geometry batch.old.pages }
     requires len { length full.bytes ≡ store.old.geometry.size }
     requires lawful { IsNodePage full.bytes }
     requires full { room_in full.bytes < most_need full.bytes }
 
     ensures reads { Reads D.meaning store.old store.new result }
     ensures widens { Widens store.old.geometry.size batch.old batch.new }
+    ensures whole { OnOk result (AreWhole store.old.geometry batch.new.pages) }
+    ensures right { IfOk result (λ halves. halves.right.page.0 < store.old.geometry.limit) }
     ensures halves { IfOk result (λ halves.
         AreHalves full.bytes full.page.0 halves.right.page.0 halves) }
     ensures alone { OnOk result (TakesAlone 1 batch.old batch.new) }
@@ -247,15 +255,18 @@ fn grow_root<D: Disk>(
 ) -> Result<PageBytes, SpaceFault>
     requires pool { IsPool D.meaning store.old }
     requires geometry { IsGeometry store.old.geometry }
-    requires whole { AreWhole store.old.geometry.size batch.old.pages }
+    requires whole { AreWhole store.old.geometry batch.old.pages }
     requires online { store.old.offline ≡ None }
     requires place { IsPlaceFor store.old.geometry.size top.owner top.level e.now full }
+    requires below { full.page.0 < store.old.geometry.limit }
     requires short { length e.now.key ≤ store.old.geometry.size / 8 }
     requires full { room_in full.bytes < most_need full.bytes }
     requires no_room { HasRoom full.bytes e.now → ⊥ }
 
     ensures reads { Reads D.meaning store.old store.new result }
     ensures widens { Widens store.old.geometry.size batch.old batch.new }
+    ensures whole { OnOk result (AreWhole store.old.geometry batch.new.pages) }
+    ensures half { IfOk result (λ half. half.page.0 < store.old.geometry.limit) }
     ensures roomy { IfOk result (IsRoomy store.old.geometry.size top.owner top.level e.now) }
     ensures makes { (image : Image) (levels : List (List ℕ)) → Tells D.meaning store.old.disk image
         → top.level ≡ level_in (viewed store.old image batch.old top.page.0)

@@ -1,6 +1,6 @@
 //! An index page that a tree is asked for: read, tested, and on the level where it is wanted.
 
-ghost use Rattle.std.specs.Prelude.{◌≡◌, ◌≤◌, ◌↔◌, IfOk, IsOk, MatchResult, length};
+ghost use Rattle.std.specs.Prelude.{◌≡◌, ◌≤◌, ◌↔◌, IfOk, IsOk, MatchResult, length, OnOk, ◌<◌};
 ghost use Rattle.mg_base.specs.Checks.{PassesAll};
 ghost use Rattle.mg_base.specs.Image.{Image};
 ghost use Rattle.mg_node.specs.NodePage.{IsNodePage, level_in, node_checks};
@@ -36,10 +36,11 @@ pub(crate) fn bytes_of<D: Disk>(
     page: PageNo,
 ) -> Result<Bytes, SpaceFault>
     requires pool { IsPool D.meaning store.old }
-    requires whole { AreWhole store.old.geometry.size batch.now.pages }
+    requires whole { AreWhole store.old.geometry batch.now.pages }
 
     ensures reads { Reads D.meaning store.old store.new result }
     ensures len { IfOk result (λ b. length b ≡ store.old.geometry.size) }
+    ensures below { OnOk result (page.0 < store.old.geometry.limit) }
     ensures seen { (image : Image) → Tells D.meaning store.old.disk image → MatchResult result
         (λ b. b ≡ viewed store.old image batch.now page.0)
         (RefusesBytes store.old.geometry.size (viewed store.old image batch.now page.0)) }
@@ -174,10 +175,11 @@ pub(crate) fn node_on<D: Disk>(
 ) -> Result<ReadNode, SpaceFault>
     requires pool { IsPool D.meaning store.old }
     requires geometry { IsGeometry store.old.geometry }
-    requires whole { AreWhole store.old.geometry.size batch.now.pages }
+    requires whole { AreWhole store.old.geometry batch.now.pages }
 
     ensures reads { Reads D.meaning store.old store.new result }
     ensures read { IfOk result (IsReadNode store.old.geometry.size owner level page.0) }
+    ensures below { OnOk result (page.0 < store.old.geometry.limit) }
     ensures seen { (image : Image) → Tells D.meaning store.old.disk image → MatchResult result
         (λ read. read.bytes ≡ viewed store.old image batch.now page.0)
         (RefusesNode owner level page.0

@@ -121,7 +121,7 @@ fn first_leaf<D: Disk>(
 ) -> Result<ReadNode, SpaceFault>
     requires pool { IsPool D.meaning store.old }
     requires geometry { IsGeometry store.old.geometry }
-    requires whole { AreWhole store.old.geometry.size batch.now.pages }
+    requires whole { AreWhole store.old.geometry batch.now.pages }
 
     ensures reads { Reads D.meaning store.old store.new result }
     ensures leaf { IfOk result (IsLeaf store.old.geometry.size) }
@@ -172,7 +172,7 @@ fn next_from<D: Disk>(
 ) -> Result<Step, SpaceFault>
     requires pool { IsPool D.meaning store.old }
     requires geometry { IsGeometry store.old.geometry }
-    requires whole { AreWhole store.old.geometry.size batch.now.pages }
+    requires whole { AreWhole store.old.geometry batch.now.pages }
     requires leaf { IsLeaf store.old.geometry.size start }
     requires online { store.old.offline ≡ None }
 

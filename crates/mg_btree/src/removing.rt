@@ -55,10 +55,10 @@ pub fn remove<D: Disk>(
 ) -> Result<bool, SpaceFault>
     requires pool { IsPool D.meaning store.old }
     requires geometry { IsGeometry store.old.geometry }
-    requires whole { AreWhole store.old.geometry.size batch.old.pages }
+    requires whole { AreWhole store.old.geometry batch.old.pages }
 
     ensures reads { Reads D.meaning store.old store.new result }
-    ensures whole { AreWhole store.old.geometry.size batch.new.pages }
+    ensures whole { AreWhole store.old.geometry batch.new.pages }
     ensures orders { batch.new.orders ≡ batch.old.orders }
     ensures few { length batch.new.pages ≤ length batch.old.pages + 1 }
 

@@ -36,7 +36,7 @@ pub(crate) fn root_of<D: Disk>(
 ) -> Result<Root, SpaceFault>
     requires pool { IsPool D.meaning store.old }
     requires geometry { IsGeometry store.old.geometry }
-    requires whole { AreWhole store.old.geometry.size batch.now.pages }
+    requires whole { AreWhole store.old.geometry batch.now.pages }
 
     ensures reads { Reads D.meaning store.old store.new result }
     ensures root { (image : Image) (owner : ℕ) (levels : List (List ℕ))

@@ -80,10 +80,11 @@ fn land<D: Disk>(
 ) -> Result<ReadNode, SpaceFault>
     requires pool { IsPool D.meaning store.old }
     requires geometry { IsGeometry store.old.geometry }
-    requires whole { AreWhole store.old.geometry.size batch.now.pages }
+    requires whole { AreWhole store.old.geometry batch.now.pages }
 
     ensures reads { Reads D.meaning store.old store.new result }
     ensures reached { IfOk result (IsReached store.old.geometry.size owner level e.now) }
+    ensures below { IfOk result (λ read. read.page.0 < store.old.geometry.limit) }
     ensures comes { (image : Image) (root : ℕ) (levels : List (List ℕ))
         → Tells D.meaning store.old.disk image
         → BeginsAt store.old.geometry.size (viewed store.old image batch.now) owner root levels e.now
@@ -127,7 +128,7 @@ fn pass<D: Disk>(
 ) -> Result<PageNo, SpaceFault>
     requires pool { IsPool D.meaning store.old }
     requires geometry { IsGeometry store.old.geometry }
-    requires whole { AreWhole store.old.geometry.size batch.now.pages }
+    requires whole { AreWhole store.old.geometry batch.now.pages }
     requires inner { 0 < level }
 
     ensures reads { Reads D.meaning store.old store.new result }
@@ -165,11 +166,12 @@ pub(crate) fn descend<D: Disk>(
 ) -> Result<ReadNode, SpaceFault>
     requires pool { IsPool D.meaning store.old }
     requires geometry { IsGeometry store.old.geometry }
-    requires whole { AreWhole store.old.geometry.size batch.now.pages }
+    requires whole { AreWhole store.old.geometry batch.now.pages }
     requires lower { level ≤ from }
 
     ensures reads { Reads D.meaning store.old store.new result }
     ensures reached { IfOk result (IsReached store.old.geometry.size owner level e.now) }
+    ensures below { IfOk result (λ read. read.page.0 < store.old.geometry.limit) }
     ensures comes { (image : Image) (root : ℕ) (levels : List (List ℕ))
         → Tells D.meaning store.old.disk image
         → BeginsAt store.old.geometry.size (viewed store.old image batch.now) owner root levels e.now
@@ -195,10 +197,11 @@ pub(crate) fn leaf_for<D: Disk>(
 ) -> Result<ReadNode, SpaceFault>
     requires pool { IsPool D.meaning store.old }
     requires geometry { IsGeometry store.old.geometry }
-    requires whole { AreWhole store.old.geometry.size batch.now.pages }
+    requires whole { AreWhole store.old.geometry batch.now.pages }
 
     ensures reads { Reads D.meaning store.old store.new result }
     ensures leaf { IfOk result (IsLeaf store.old.geometry.size) }
+    ensures below { IfOk result (λ read. read.page.0 < store.old.geometry.limit) }
     ensures seen { (image : Image) (owner : ℕ) (levels : List (List ℕ))
         → Tells D.meaning store.old.disk image
         → IsTree store.old.geometry.size (viewed store.old image batch.now) owner root.0 levels

@@ -1,10 +1,10 @@
 -- A batch of two pages with one order is lawful.
-use Rattle.std.proofs.Common.{◌≡◌, ◌≢◌, ◌≤◌, ℕ, ◌+◌, Bool, true, false, ◌&&◌, ◌||◌, ◌==◌, inl, inr, List, [], ◌∷◌, ◌++◌, length, Some, None, is_some, sym, ◌∙◌, ap, refl, cond, arith, subst}
+use Rattle.std.proofs.Common.{◌≡◌, ◌≢◌, ◌≤◌, ◌<◌, ℕ, ◌+◌, Bool, true, false, ◌&&◌, ◌||◌, ◌==◌, inl, inr, List, [], ◌∷◌, ◌++◌, length, Some, None, is_some, sym, ◌∙◌, ap, refl, cond, arith, subst}
 use Rattle.std.proofs.lemmas.Bool.{cases_eq, and_parts, eqb-true}
 use Rattle.mg_careful.specs.declared.graph.Order.{Order}
 use Rattle.mg_careful.specs.Precedence.{Precedes, directly, through}
 use Rattle.mg_pool.specs.declared.batch.BatchPage.{BatchPage}
-use Rattle.mg_pool.specs.Batch.{Changed, IsLawful, PutsPage, content_in, is_in, lists}
+use Rattle.mg_pool.specs.Batch.{AreBelow, Changed, IsLawful, PutsPage, content_in, is_in, lists}
 
 -- of one order, a chain is that order
 one_chain : (o : Order) → o.first ≢ o.later → (a b : ℕ) → Precedes (lists (o ∷ [])) a b → (a ≡ o.first) × (b ≡ o.later)
@@ -52,3 +52,19 @@ two_lawful size o bytes start one two last no_pages no_orders first later pages 
     at_most : (t : Bool) (m n : ℕ) → n ≡ cond t m (m + 1) → n ≤ m + 1
     at_most true m n e = omega arith
     at_most false m n e = omega arith
+
+-- and its pages lie below a limit, where the two do
+pub two_below : (limit : ℕ) (o : Order) (bytes : List ℕ) (start one two last : Changed) → start.pages ≡ []
+    → PutsPage start one o.first bytes → PutsPage one two o.later bytes → last.pages ≡ two.pages
+    → o.first < limit → o.later < limit → AreBelow limit last.pages
+two_below limit o bytes start one two last no_pages first later pages first_below later_below page b there =
+    elim (cases_eq page o.later) [
+      | inl e ↦ rw e later_below
+      | inr out ↦ elim (cases_eq page o.first) [
+        | inl e ↦ rw e first_below
+        | inr off ↦ absurd (let h : Some b ≡ None = sym in_two ∙ (later.others page out ∙ (first.others page off ∙ ap (λ (xs : List BatchPage). content_in xs page) no_pages)) in cc)
+      ]
+    ]
+  where
+    in_two : content_in two.pages page ≡ Some b
+    in_two = ap (λ (xs : List BatchPage). content_in xs page) (sym pages) ∙ there

@@ -4,6 +4,7 @@ use Rattle.std.specs.Prelude.{MatchResult}
 use Rattle.std.proofs.Common.{Result, Ok, Err}
 use Rattle.mg_base.specs.Disk.{Meaning}
 use Rattle.mg_base.specs.Image.{Image}
+use Rattle.mg_base.specs.declared.geometry.Geometry.{Geometry}
 use Rattle.mg_base.specs.declared.numbers.RecId.{RecId}
 use Rattle.mg_base.specs.declared.numbers.TxNo.{TxNo}
 use Rattle.mg_heap.specs.Growth.{AddsOrders}
@@ -22,9 +23,9 @@ use Rattle.mg_chain.specs.WritingRefusals.{RefusesPush, RefusesPushCell, pushed_
 use Rattle.mg_chain.proofs.WritingLemmas.{pushes_on, turns_on}
 
 -- contents are one page long where only orders were added
-pub whole_ordered : (size : ℕ) (old new : Changed) → new.pages ≡ old.pages → AreWhole size old.pages
-    → AreWhole size new.pages
-whole_ordered size old new same whole = subst (λ (pages : List BatchPage). AreWhole size pages) (sym same) whole
+pub whole_ordered : (g : Geometry) (old new : Changed) → new.pages ≡ old.pages → AreWhole g old.pages
+    → AreWhole g new.pages
+whole_ordered g old new same whole = subst (λ (pages : List BatchPage). AreWhole g pages) (sym same) whole
 
 module _ {D L : Type 0} (m : Meaning D) (a b : Pool D L) (kept : KeepsStore m a b) (image : Image) where
   pub pushes_cell : (old put turned new : Changed) (rec at : RecId) (newest : Link) (owner : ℕ)

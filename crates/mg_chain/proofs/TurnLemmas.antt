@@ -1,5 +1,5 @@
 -- A slot is turned, and a cell freed.
-use Rattle.std.proofs.Common.{◌≡◌, ◌+◌, ◌∙◌, inr, ℕ, Bool, true, false, List, Option, None, Some, length, sym, ap, subst, Result, Ok, Err}
+use Rattle.std.proofs.Common.{◌≡◌, ◌<◌, ◌+◌, ◌∙◌, inr, ℕ, Bool, true, false, List, Option, None, Some, length, sym, ap, subst, Result, Ok, Err}
 use Rattle.std.specs.Prelude.{MatchResult, OnErr, OnOk}
 use Rattle.std.specs.declared.alloc.Global.{Global}
 use Rattle.std.specs.declared.vec.Vec.{Vec}
@@ -100,17 +100,17 @@ back_none m store after image old new rec to (Ok x) is changes frees =
 back_none m store after image old new rec to (Err fault) is changes refused =
     turn_data m after old.pages (viewed store image old) rec fault refused
 
--- contents are one page long after a slot was freed, and after it was not
-pub whole_freed : (size : ℕ) (old new : Changed) (page : ℕ) (result : Result (Unit {0}) SpaceFault)
-    → AreWhole size old.pages → OnOk result (ChangesAtMost size old new page)
-    → OnErr result (new ≡ old) → AreWhole size new.pages
-whole_freed size old new page (Ok x) whole changes same = whole_at_most size old new page whole changes
-whole_freed size old new page (Err fault) whole changes same =
-    subst (λ (b : Changed). AreWhole size b.pages) (sym same) whole
+-- contents are one page long, and of pages below the limit, after a slot was freed, and after it was not
+pub whole_freed : (g : Geometry) (old new : Changed) (page : ℕ) (result : Result (Unit {0}) SpaceFault)
+    → AreWhole g old.pages → OnOk result (page < g.limit)
+    → OnOk result (ChangesAtMost g.size old new page) → OnErr result (new ≡ old) → AreWhole g new.pages
+whole_freed g old new page (Ok x) whole below changes same = whole_at_most g old new page whole below changes
+whole_freed g old new page (Err fault) whole below changes same =
+    subst (λ (b : Changed). AreWhole g b.pages) (sym same) whole
 
-pub whole_as : (g h : Geometry) (pages : List BatchPage) → g ≡ h → AreWhole g.size pages
-    → AreWhole h.size pages
-whole_as g h pages same whole = subst (λ (k : Geometry). AreWhole k.size pages) same whole
+pub whole_as : (g h : Geometry) (pages : List BatchPage) → g ≡ h → AreWhole g pages
+    → AreWhole h pages
+whole_as g h pages same whole = subst (λ (k : Geometry). AreWhole k pages) same whole
 
 -- ---- the slot is turned, and then the cell freed
 

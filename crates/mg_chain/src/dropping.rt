@@ -41,12 +41,12 @@ pub fn drop_behind<D: Disk>(
 ) -> Result<Option<Link>, SpaceFault>
     requires pool { IsPool D.meaning store.old }
     requires geometry { IsGeometry store.old.geometry }
-    requires whole { AreWhole store.old.geometry.size batch.old.pages }
+    requires whole { AreWhole store.old.geometry batch.old.pages }
 
     ensures keeps { KeepsStore D.meaning store.old store.new }
     ensures fault { TellsFault D.meaning store.old store.new (pool_answer result) }
     ensures own { ReadsData result }
-    ensures whole { AreWhole store.old.geometry.size batch.new.pages }
+    ensures whole { AreWhole store.old.geometry batch.new.pages }
     ensures drops { (image : Image) → Tells D.meaning store.old.disk image → MatchResult result
         (DropsIfBehind store.old image batch.old batch.new newer)
         (RefusesDrop D.meaning store.old store.new image batch.old holder.0 newer) }
@@ -75,7 +75,7 @@ fn lead_past<D: Disk>(
 ) -> Result<(), SpaceFault>
     requires pool { IsPool D.meaning store.old }
     requires geometry { IsGeometry store.old.geometry }
-    requires whole { AreWhole store.old.geometry.size batch.old.pages }
+    requires whole { AreWhole store.old.geometry batch.old.pages }
     requires apart { version.now.primary ≡ false }
     requires stored { 1 ≤ version.now.format }
     requires short { length version.now.body ≤ GREATEST_SIZE }
@@ -83,7 +83,7 @@ fn lead_past<D: Disk>(
     ensures keeps { KeepsStore D.meaning store.old store.new }
     ensures fault { TellsFault D.meaning store.old store.new (pool_answer result) }
     ensures own { ReadsData result }
-    ensures whole { AreWhole store.old.geometry.size batch.new.pages }
+    ensures whole { AreWhole store.old.geometry batch.new.pages }
     ensures leads { (image : Image) → Tells D.meaning store.old.disk image → MatchResult result
         (λ _. LeadsPast store.old image batch.old batch.new at gone version.now back)
         (RefusesLeadPast D.meaning store.old store.new image batch.old at gone version.now back) }
@@ -109,7 +109,7 @@ fn put_over<D: Disk>(
 ) -> Result<(), SpaceFault>
     requires pool { IsPool D.meaning store.old }
     requires geometry { IsGeometry store.old.geometry }
-    requires whole { AreWhole store.old.geometry.size batch.old.pages }
+    requires whole { AreWhole store.old.geometry batch.old.pages }
     requires apart { version.now.primary ≡ false }
     requires stored { 1 ≤ version.now.format }
     requires short { length version.now.body ≤ GREATEST_SIZE }
@@ -117,7 +117,7 @@ fn put_over<D: Disk>(
     ensures keeps { KeepsStore D.meaning store.old store.new }
     ensures fault { TellsFault D.meaning store.old store.new (pool_answer result) }
     ensures own { ReadsData result }
-    ensures whole { AreWhole store.old.geometry.size batch.new.pages }
+    ensures whole { AreWhole store.old.geometry batch.new.pages }
     ensures puts { (image : Image) → Tells D.meaning store.old.disk image → MatchResult result
         (λ _. PutsOver store.old image batch.old batch.new at version.now back)
         (RefusesPutOver D.meaning store.new batch.old.pages (viewed store.old image batch.old) at

@@ -39,14 +39,14 @@ pub fn spot<D: Disk>(
 ) -> Result<RecId, SpaceFault>
     requires pool { IsPool D.meaning store.old }
     requires geometry { IsGeometry store.old.geometry }
-    requires whole { AreWhole store.old.geometry.size batch.old.pages }
+    requires whole { AreWhole store.old.geometry batch.old.pages }
     requires owner { owner.0 < GREATEST_LIMIT }
     requires some { owner.0 ≢ 0 }
 
     ensures keeps { KeepsStore D.meaning store.old store.new }
     ensures fault { TellsFault D.meaning store.old store.new (pool_answer result) }
     ensures own { ReadsAlone result }
-    ensures whole { AreWhole store.old.geometry.size batch.new.pages }
+    ensures whole { AreWhole store.old.geometry batch.new.pages }
     ensures gives { (image : Image) → Tells D.meaning store.old.disk image → MatchResult result
         (GivesSpot store.old image batch.old batch.new owner.0)
         (RefusesSpot D.meaning store.old store.new image batch.old owner.0) }
@@ -79,7 +79,7 @@ pub fn first<D: Disk>(
 ) -> Result<(), SpaceFault>
     requires pool { IsPool D.meaning store.old }
     requires geometry { IsGeometry store.old.geometry }
-    requires whole { AreWhole store.old.geometry.size batch.old.pages }
+    requires whole { AreWhole store.old.geometry batch.old.pages }
     requires owner { owner.0 < GREATEST_LIMIT }
     requires some { owner.0 ≢ 0 }
     requires apart { v.now.primary ≡ false }
@@ -89,7 +89,7 @@ pub fn first<D: Disk>(
     ensures keeps { KeepsStore D.meaning store.old store.new }
     ensures fault { TellsFault D.meaning store.old store.new (pool_answer result) }
     ensures own { ReadsAlone result }
-    ensures whole { AreWhole store.old.geometry.size batch.new.pages }
+    ensures whole { AreWhole store.old.geometry batch.new.pages }
     ensures makes { (image : Image) → Tells D.meaning store.old.disk image → MatchResult result
         (λ _. MakesRecord store.old image batch.old batch.new owner.0 at v.now)
         (RefusesFirst D.meaning store.old store.new image batch.old owner.0 at v.now) }
@@ -110,14 +110,14 @@ fn first_cell<D: Disk>(
 ) -> Result<(), SpaceFault>
     requires pool { IsPool D.meaning store.old }
     requires geometry { IsGeometry store.old.geometry }
-    requires whole { AreWhole store.old.geometry.size batch.old.pages }
+    requires whole { AreWhole store.old.geometry batch.old.pages }
     requires owner { MayOwn owner.0 }
     requires length { length cell.now + 24 ≤ store.old.geometry.size }
 
     ensures keeps { KeepsStore D.meaning store.old store.new }
     ensures fault { TellsFault D.meaning store.old store.new (pool_answer result) }
     ensures own { ReadsAlone result }
-    ensures whole { AreWhole store.old.geometry.size batch.new.pages }
+    ensures whole { AreWhole store.old.geometry batch.new.pages }
     ensures makes { (image : Image) → Tells D.meaning store.old.disk image → MatchResult result
         (λ _. MakesCell store.old image batch.old batch.new owner.0 rec cell.now tx)
         (RefusesFirstCell D.meaning store.old store.new image batch.old owner.0 rec cell.now) }
@@ -152,14 +152,14 @@ fn put_first<D: Disk>(
 ) -> Result<PutFirst, SpaceFault>
     requires pool { IsPool D.meaning store.old }
     requires geometry { IsGeometry store.old.geometry }
-    requires whole { AreWhole store.old.geometry.size batch.old.pages }
+    requires whole { AreWhole store.old.geometry batch.old.pages }
     requires owner { MayOwn owner.0 }
     requires length { length cell.now + 24 ≤ store.old.geometry.size }
 
     ensures keeps { KeepsStore D.meaning store.old store.new }
     ensures fault { TellsFault D.meaning store.old store.new (pool_answer result) }
     ensures own { ReadsAlone result }
-    ensures whole { AreWhole store.old.geometry.size batch.new.pages }
+    ensures whole { AreWhole store.old.geometry batch.new.pages }
     ensures puts { (image : Image) → Tells D.meaning store.old.disk image → MatchResult result
         (λ put. AddsApart store.old image batch.old batch.new owner.0 rec cell.now put.at
         × IsReached (viewed store.old image batch.new) owner.0 put.at.page.0 put.pointers.items
@@ -192,7 +192,7 @@ fn both_pointers<D: Disk>(
 ) -> Result<BothPointers, SpaceFault>
     requires pool { IsPool D.meaning store.old }
     requires geometry { IsGeometry store.old.geometry }
-    requires whole { AreWhole store.old.geometry.size batch.now.pages }
+    requires whole { AreWhole store.old.geometry batch.now.pages }
     requires owner { MayOwn owner.0 }
 
     ensures keeps { KeepsStore D.meaning store.old store.new }

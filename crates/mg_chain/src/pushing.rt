@@ -42,7 +42,7 @@ pub fn push<D: Disk>(
 ) -> Result<(), SpaceFault>
     requires pool { IsPool D.meaning store.old }
     requires geometry { IsGeometry store.old.geometry }
-    requires whole { AreWhole store.old.geometry.size batch.old.pages }
+    requires whole { AreWhole store.old.geometry batch.old.pages }
     requires apart { v.now.primary ≡ false }
     requires stored { 1 ≤ v.now.format }
     requires length { length v.now.body + 42 ≤ store.old.geometry.size }
@@ -50,7 +50,7 @@ pub fn push<D: Disk>(
     ensures keeps { KeepsStore D.meaning store.old store.new }
     ensures fault { TellsFault D.meaning store.old store.new (pool_answer result) }
     ensures own { ReadsAlone result }
-    ensures whole { AreWhole store.old.geometry.size batch.new.pages }
+    ensures whole { AreWhole store.old.geometry batch.new.pages }
     ensures pushes { (image : Image) → Tells D.meaning store.old.disk image → MatchResult result
         (λ _. Pushes store.old image batch.old batch.new rec v.now)
         (RefusesPush D.meaning store.old store.new image batch.old rec v.now) }
@@ -71,14 +71,14 @@ fn push_cell<D: Disk>(
 ) -> Result<(), SpaceFault>
     requires pool { IsPool D.meaning store.old }
     requires geometry { IsGeometry store.old.geometry }
-    requires whole { AreWhole store.old.geometry.size batch.old.pages }
+    requires whole { AreWhole store.old.geometry batch.old.pages }
     requires owner { MayOwn head.owner.0 }
     requires length { length cell.now + 24 ≤ store.old.geometry.size }
 
     ensures keeps { KeepsStore D.meaning store.old store.new }
     ensures fault { TellsFault D.meaning store.old store.new (pool_answer result) }
     ensures own { ReadsAlone result }
-    ensures whole { AreWhole store.old.geometry.size batch.new.pages }
+    ensures whole { AreWhole store.old.geometry batch.new.pages }
     ensures pushes { (image : Image) → Tells D.meaning store.old.disk image → MatchResult result
         (λ _. PushesCell store.old image batch.old batch.new rec head.newest head.owner.0 cell.now tx)
         (RefusesPushCell D.meaning store.old store.new image batch.old rec head.owner.0 cell.now) }
@@ -111,14 +111,14 @@ pub(crate) fn put_version<D: Disk>(
 ) -> Result<PutVersion, SpaceFault>
     requires pool { IsPool D.meaning store.old }
     requires geometry { IsGeometry store.old.geometry }
-    requires whole { AreWhole store.old.geometry.size batch.old.pages }
+    requires whole { AreWhole store.old.geometry batch.old.pages }
     requires owner { MayOwn owner.0 }
     requires length { length cell.now + 24 ≤ store.old.geometry.size }
 
     ensures keeps { KeepsStore D.meaning store.old store.new }
     ensures fault { TellsFault D.meaning store.old store.new (pool_answer result) }
     ensures own { ReadsAlone result }
-    ensures whole { AreWhole store.old.geometry.size batch.new.pages }
+    ensures whole { AreWhole store.old.geometry batch.new.pages }
     ensures puts { (image : Image) → Tells D.meaning store.old.disk image → MatchResult result
         (λ put. PutsVersion store.old image batch.old batch.new owner.0 cell.now put.at
         put.pointers.items)

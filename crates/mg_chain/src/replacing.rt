@@ -46,7 +46,7 @@ pub fn replace_own<D: Disk>(
 ) -> Result<(), SpaceFault>
     requires pool { IsPool D.meaning store.old }
     requires geometry { IsGeometry store.old.geometry }
-    requires whole { AreWhole store.old.geometry.size batch.old.pages }
+    requires whole { AreWhole store.old.geometry batch.old.pages }
     requires apart { v.now.primary ≡ false }
     requires stored { 1 ≤ v.now.format }
     requires length { length v.now.body + 42 ≤ store.old.geometry.size }
@@ -54,7 +54,7 @@ pub fn replace_own<D: Disk>(
     ensures keeps { KeepsStore D.meaning store.old store.new }
     ensures fault { TellsFault D.meaning store.old store.new (pool_answer result) }
     ensures own { ReadsAlone result }
-    ensures whole { AreWhole store.old.geometry.size batch.new.pages }
+    ensures whole { AreWhole store.old.geometry batch.new.pages }
     ensures replaces { (image : Image) → Tells D.meaning store.old.disk image → MatchResult result
         (λ _. Replaces store.old image batch.old batch.new rec v.now)
         (RefusesReplace D.meaning store.old store.new image batch.old rec v.now) }
@@ -99,14 +99,14 @@ fn overwrite_or_move<D: Disk>(
 ) -> Result<(), SpaceFault>
     requires pool { IsPool D.meaning store.old }
     requires geometry { IsGeometry store.old.geometry }
-    requires whole { AreWhole store.old.geometry.size batch.old.pages }
+    requires whole { AreWhole store.old.geometry batch.old.pages }
     requires owner { MayOwn head.owner.0 }
     requires length { length cell.now + 24 ≤ store.old.geometry.size }
 
     ensures keeps { KeepsStore D.meaning store.old store.new }
     ensures fault { TellsFault D.meaning store.old store.new (pool_answer result) }
     ensures own { ReadsAlone result }
-    ensures whole { AreWhole store.old.geometry.size batch.new.pages }
+    ensures whole { AreWhole store.old.geometry batch.new.pages }
     ensures writes { (image : Image) → Tells D.meaning store.old.disk image → MatchResult result
         (λ _. OverwritesOrMoves store.old image batch.old batch.new rec head.newest head.owner.0
         cell.now tx back)
@@ -132,14 +132,14 @@ fn move_cell<D: Disk>(
 ) -> Result<(), SpaceFault>
     requires pool { IsPool D.meaning store.old }
     requires geometry { IsGeometry store.old.geometry }
-    requires whole { AreWhole store.old.geometry.size batch.old.pages }
+    requires whole { AreWhole store.old.geometry batch.old.pages }
     requires owner { MayOwn head.owner.0 }
     requires length { length cell.now + 24 ≤ store.old.geometry.size }
 
     ensures keeps { KeepsStore D.meaning store.old store.new }
     ensures fault { TellsFault D.meaning store.old store.new (pool_answer result) }
     ensures own { ReadsAlone result }
-    ensures whole { AreWhole store.old.geometry.size batch.new.pages }
+    ensures whole { AreWhole store.old.geometry batch.new.pages }
     ensures moves { (image : Image) → Tells D.meaning store.old.disk image → MatchResult result
         (λ _. Moves store.old image batch.old batch.new rec head.newest head.owner.0 cell.now tx back)
         (RefusesMove D.meaning store.old store.new image batch.old rec head.newest head.owner.0
@@ -184,14 +184,14 @@ fn put_moved<D: Disk>(
 ) -> Result<MovedVersion, SpaceFault>
     requires pool { IsPool D.meaning store.old }
     requires geometry { IsGeometry store.old.geometry }
-    requires whole { AreWhole store.old.geometry.size batch.old.pages }
+    requires whole { AreWhole store.old.geometry batch.old.pages }
     requires owner { MayOwn owner.0 }
     requires length { length cell.now + 24 ≤ store.old.geometry.size }
 
     ensures keeps { KeepsStore D.meaning store.old store.new }
     ensures fault { TellsFault D.meaning store.old store.new (pool_answer result) }
     ensures own { ReadsAlone result }
-    ensures whole { AreWhole store.old.geometry.size batch.new.pages }
+    ensures whole { AreWhole store.old.geometry batch.new.pages }
     ensures puts { (image : Image) → Tells D.meaning store.old.disk image → MatchResult result
         (λ moved. PutsVersion store.old image batch.old batch.new owner.0 cell.now moved.put.at
         moved.put.pointers.items

@@ -37,12 +37,12 @@ pub fn back_out<D: Disk>(
 ) -> Result<(), SpaceFault>
     requires pool { IsPool D.meaning store.old }
     requires geometry { IsGeometry store.old.geometry }
-    requires whole { AreWhole store.old.geometry.size batch.old.pages }
+    requires whole { AreWhole store.old.geometry batch.old.pages }
 
     ensures keeps { KeepsStore D.meaning store.old store.new }
     ensures fault { TellsFault D.meaning store.old store.new (pool_answer result) }
     ensures own { ReadsData result }
-    ensures whole { AreWhole store.old.geometry.size batch.new.pages }
+    ensures whole { AreWhole store.old.geometry batch.new.pages }
     ensures takes { (image : Image) → Tells D.meaning store.old.disk image → MatchResult result
         (λ _. TakesOut store.old image batch.old batch.new rec)
         (RefusesBackOut D.meaning store.old store.new image batch.old rec) }
@@ -61,13 +61,13 @@ fn take_cell_out<D: Disk>(
 ) -> Result<(), SpaceFault>
     requires pool { IsPool D.meaning store.old }
     requires geometry { IsGeometry store.old.geometry }
-    requires whole { AreWhole store.old.geometry.size batch.old.pages }
+    requires whole { AreWhole store.old.geometry batch.old.pages }
     requires owner { MayOwn head.owner.0 }
 
     ensures keeps { KeepsStore D.meaning store.old store.new }
     ensures fault { TellsFault D.meaning store.old store.new (pool_answer result) }
     ensures own { ReadsData result }
-    ensures whole { AreWhole store.old.geometry.size batch.new.pages }
+    ensures whole { AreWhole store.old.geometry batch.new.pages }
     ensures takes { (image : Image) → Tells D.meaning store.old.disk image → MatchResult result
         (λ _. TakesCellOut store.old image batch.old batch.new rec head.newest head.owner.0 back)
         (RefusesTakeCellOut D.meaning store.old store.new image batch.old rec head.newest head.owner.0

@@ -33,12 +33,12 @@ pub(crate) fn turn<D: Disk>(
 ) -> Result<(), SpaceFault>
     requires pool { IsPool D.meaning store.old }
     requires geometry { IsGeometry store.old.geometry }
-    requires whole { AreWhole store.old.geometry.size batch.old.pages }
+    requires whole { AreWhole store.old.geometry batch.old.pages }
 
     ensures keeps { KeepsStore D.meaning store.old store.new }
     ensures fault { TellsFault D.meaning store.old store.new (pool_answer result) }
     ensures own { ReadsData result }
-    ensures whole { AreWhole store.old.geometry.size batch.new.pages }
+    ensures whole { AreWhole store.old.geometry batch.new.pages }
     ensures gives { (image : Image) → Tells D.meaning store.old.disk image → MatchResult result
         (λ _. TurnsTo store.old image batch.old batch.new rec link)
         (RefusesTurn D.meaning store.new batch.old.pages (viewed store.old image batch.old) rec) }
@@ -77,12 +77,12 @@ fn turn_back<D: Disk>(
 ) -> Result<(), SpaceFault>
     requires pool { IsPool D.meaning store.old }
     requires geometry { IsGeometry store.old.geometry }
-    requires whole { AreWhole store.old.geometry.size batch.old.pages }
+    requires whole { AreWhole store.old.geometry batch.old.pages }
 
     ensures keeps { KeepsStore D.meaning store.old store.new }
     ensures fault { TellsFault D.meaning store.old store.new (pool_answer result) }
     ensures own { ReadsData result }
-    ensures whole { AreWhole store.old.geometry.size batch.new.pages }
+    ensures whole { AreWhole store.old.geometry batch.new.pages }
     ensures gives { (image : Image) → Tells D.meaning store.old.disk image → MatchResult result
         (λ _. TurnsBack store.old image batch.old batch.new rec to)
         (RefusesTurn D.meaning store.new batch.old.pages (viewed store.old image batch.old) rec) }
@@ -107,12 +107,12 @@ pub(crate) fn swing<D: Disk>(
 ) -> Result<(), SpaceFault>
     requires pool { IsPool D.meaning store.old }
     requires geometry { IsGeometry store.old.geometry }
-    requires whole { AreWhole store.old.geometry.size batch.old.pages }
+    requires whole { AreWhole store.old.geometry batch.old.pages }
 
     ensures keeps { KeepsStore D.meaning store.old store.new }
     ensures fault { TellsFault D.meaning store.old store.new (pool_answer result) }
     ensures own { ReadsData result }
-    ensures whole { AreWhole store.old.geometry.size batch.new.pages }
+    ensures whole { AreWhole store.old.geometry batch.new.pages }
     ensures gives { (image : Image) → Tells D.meaning store.old.disk image → MatchResult result
         (λ _. Swings store.old image batch.old batch.new rec left to)
         (RefusesSwing D.meaning store.old store.new image batch.old rec left to) }
@@ -136,7 +136,7 @@ pub(crate) fn slot_pointers<D: Disk>(
 ) -> Result<Vec<u32>, SpaceFault>
     requires pool { IsPool D.meaning store.old }
     requires geometry { IsGeometry store.old.geometry }
-    requires whole { AreWhole store.old.geometry.size batch.now.pages }
+    requires whole { AreWhole store.old.geometry batch.now.pages }
     requires owner { MayOwn owner.0 }
 
     ensures keeps { KeepsStore D.meaning store.old store.new }

@@ -23,13 +23,14 @@ use Rattle.mg_space.specs.Taking.{IsGeometry}
 use Rattle.mg_space.specs.declared.links.FireLinks.{FireLinks}
 use Rattle.mg_txlist.specs.Drawing.{AddsNumber, FailsDraw, SaysSame}
 use Rattle.mg_txlist.specs.Refusals.{RefusesDraw}
-use Rattle.mg_txlist.specs.TxList.{IsTxList, next_said, said}
+use Rattle.mg_txlist.specs.TxList.{IsTxList, TipsAreBelow, next_said, said}
 use Rattle.mg_txlist.specs.declared.list.TxList.{TxList}
 use Rattle.mg_works.specs.Works.{Working, begun, without_work, work_of}
 use Rattle.mg_works.specs.WorksLaws.{begun_and_gone, more_its, more_others}
 use Rattle.mg_core.specs.declared.parts.Core.{Core}
 use Rattle.mg_core.specs.Cores.{IsCore}
 use Rattle.mg_core.proofs.CoreLemmas.{next_none}
+use Rattle.mg_txlist.specs.TipLaws.{tips_by, tips_same}
 
 -- those that have not ended are no greater than the one that has just entered
 pub entered_last : (live : Bases) (t : ℕ) → AreDrawn live → live.next ≡ t → (u : ℕ)
@@ -61,7 +62,8 @@ entered_drawn live t drawn next u there =
 
 module _ {D : Type 0} (m : Meaning D) (old : Core D) (t session : ℕ) (mode : Mode) (store : Pool D FireLinks)
     (list : TxList) (is : IsCore m old) (number : t ≡ next_said old.list) (pool : IsPool m store)
-    (geometry : store.geometry ≡ old.store.geometry) (list_is : IsTxList list) (adds : AddsNumber old.list list) where
+    (geometry : store.geometry ≡ old.store.geometry) (list_is : IsTxList list)
+    (tips : TipsAreBelow old.store.geometry.limit list) (adds : AddsNumber old.list list) where
   next : old.live.next ≡ t
   next = is.next ∙ sym number
 
@@ -92,6 +94,7 @@ module _ {D : Type 0} (m : Meaning D) (old : Core D) (t session : ℕ) (mode : M
     geometry = subst IsGeometry (sym geometry) is.geometry;
     list = list_is;
     size = adds.size ∙ (is.size ∙ ap (λ (g : Geometry). g.size) (sym geometry));
+    tips = tips_by old.store.geometry store.geometry list geometry tips;
     catalog = is.catalog;
     next = entered_next old.live t next ∙ (ap (λ (n : ℕ). n + 1) number ∙ sym adds.next);
     drawn = entered_drawn old.live t is.drawn next;
@@ -135,6 +138,8 @@ core_failed m old store list damage shortages is pool geometry list_is same = re
   geometry = subst IsGeometry (sym geometry) is.geometry;
   list = list_is;
   size = same.size ∙ (is.size ∙ ap (λ (g : Geometry). g.size) (sym geometry));
+  tips = tips_by old.store.geometry store.geometry list geometry
+      (tips_same old.store.geometry.limit old.list list same.pages is.tips);
   catalog = is.catalog;
   next = is.next ∙ sym (next_same old.list list same);
   drawn = is.drawn;
@@ -163,9 +168,13 @@ module _ {D : Type 0} (m : Meaning D) (old entered : Core D) (t session : ℕ) (
   retract_may u there = entered_last old.live t is.drawn old_next u
       (ap (λ (c : Core D). is_among (unended_in c.live) u) (sym ok) ∙ there)
 
-  pub begun_core : AddsNumber entered.list list → IsCore m (record entered { store = store; list = list })
-  begun_core adds = subst (λ (c : Core D). IsCore m (record c { store = store; list = list })) (sym ok)
+  pub begun_core : (TipsAreBelow entered.store.geometry.limit entered.list
+      → TipsAreBelow entered.store.geometry.limit list) → AddsNumber entered.list list
+      → IsCore m (record entered { store = store; list = list })
+  begun_core tips adds = subst (λ (c : Core D). IsCore m (record c { store = store; list = list })) (sym ok)
       (core_begun m old t session mode store list is number pool geometry_is list_is
+      (subst (λ (c : Core D). TipsAreBelow c.store.geometry.limit c.list
+      → TipsAreBelow c.store.geometry.limit list) ok tips is.tips)
       (subst (λ (l : TxList). AddsNumber l list) (ap (λ (c : Core D). c.list) ok) adds))
 
   module _ (works : List Working) (bases : Bases) (final : Core D) (same : SaysSame entered.list list)

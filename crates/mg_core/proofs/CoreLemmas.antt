@@ -17,12 +17,13 @@ use Rattle.mg_base.specs.declared.transaction.TxState.TheVariants.{Active, Commi
 use Rattle.mg_snap.specs.Live.{AreDrawn, State as Bases, after_leave, after_rebase, base_now, is_among, without}
 use Rattle.mg_snap.specs.LiveLaws.{drawn_after_drop, numbers_rebased}
 use Rattle.mg_txlist.specs.declared.list.TxList.{TxList}
-use Rattle.mg_txlist.specs.TxList.{EndsIn, IsTxList, bits_said, next_said, own_said, said}
+use Rattle.mg_txlist.specs.TxList.{EndsIn, IsTxList, TipsAreBelow, bits_said, next_said, own_said, said}
 use Rattle.mg_works.specs.Works.{Working, has_asked, with_point, with_work, without_tables, without_work, work_of}
 use Rattle.mg_works.specs.WorksLaws.{with_its, with_none, with_others, without_its, without_others}
 use Rattle.mg_core.specs.declared.parts.Core.{Core}
 use Rattle.mg_core.specs.Cores.{IsCore}
 use Rattle.mg_core.specs.Events.{EndsWait, keeps_base, with_base, with_base_if}
+use Rattle.mg_txlist.specs.TipLaws.{tips_by}
 
 -- other waits, works of the same transactions, and bases with the same next number
 pub core_with : {D : Type 0} (m : Meaning D) (old new : Core D) (works : List Working) (bases : Bases)
@@ -34,6 +35,7 @@ core_with {D} m old new works bases core same next drawn active = subst (λ (c :
   geometry = core.geometry;
   list = core.list;
   size = core.size;
+  tips = core.tips;
   catalog = core.catalog;
   next = next ∙ core.next;
   drawn = drawn;
@@ -105,7 +107,7 @@ core_pointed m core t name works is works_is = rw works_is (core_made m core (wi
 module _ {D : Type 0} (m : Meaning D) (core : Core D) (t : ℕ) (end : TxState) (store : Pool D FireLinks)
     (list : TxList) (works : List Working) (bases : Bases) (is : IsCore m core) (not_active : end ≢ Active)
     (pool : IsPool m store) (geometry : store.geometry ≡ core.store.geometry) (list_is : IsTxList list)
-    (ends : EndsIn core.list list t end) where
+    (tips : TipsAreBelow core.store.geometry.limit list) (ends : EndsIn core.list list t end) where
   by : {u : ℕ} → (u ≡ t) ⊎ (u ≢ t) → said list u ≡ Active
       → is_some (work_of (without_work t core.works) u) ≡ true
   by {u} (inl e) active = absurd (not_active (sym ends.here ∙ (ap (said list) (sym e) ∙ active)))
@@ -130,6 +132,7 @@ module _ {D : Type 0} (m : Meaning D) (core : Core D) (t : ℕ) (end : TxState) 
     geometry = subst IsGeometry (sym geometry) is.geometry;
     list = list_is;
     size = ends.size ∙ (is.size ∙ ap (λ (g : Geometry). g.size) (sym geometry));
+    tips = tips_by core.store.geometry store.geometry list geometry tips;
     catalog = is.catalog;
     next = is.next ∙ sym ends.next;
     drawn = drawn_after_drop core.live.next t core.live.entered (without t core.live.entered) refl is.drawn;
@@ -161,6 +164,7 @@ core_asked {D} m core t store works is pool same works_is =
       geometry = subst IsGeometry (sym geometry) made.geometry;
       list = made.list;
       size = made.size ∙ ap (λ (g : Geometry). g.size) (sym geometry);
+      tips = tips_by core.store.geometry store.geometry core.list geometry made.tips;
       catalog = made.catalog;
       next = made.next;
       drawn = made.drawn;

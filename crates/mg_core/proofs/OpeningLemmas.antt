@@ -28,6 +28,7 @@ use Rattle.mg_directory.specs.declared.TheConstants.{MOST_NOTED}
 use Rattle.mg_core.specs.declared.parts.Core.{Core}
 use Rattle.mg_core.specs.Cores.{IsCore}
 use Rattle.mg_core.specs.Opening.{Opens}
+use Rattle.mg_txlist.specs.TipLaws.{tips_by}
 
 -- what was asked before the pages were read, and then
 read_then : {D : Type 0} (m : Meaning D) (disk mid new : D) (tips : List TipPage) (pointers data_pages : List ℕ)
@@ -45,7 +46,7 @@ read_then m disk mid new tips pointers data_pages first next = more_reads m disk
 module _ {D : Type 0} (m : Meaning D) (disk : D) (limit : ℕ) (before after : Pool D FireLinks)
     (loaded : Loaded) (waits : List (ℕ × ℕ)) (works : List Working) (directories : Kept)
     (prepared : IsPrepared m disk limit before) (keeps : KeepsStore m before after)
-    (is : IsLoaded before.geometry.size loaded)
+    (is : IsLoaded before.geometry loaded)
     (steady : m.faults after.disk ≡ m.faults before.disk)
     (loads : ReadsFront m before after loaded.list.pages.items loaded.catalog_pages.pointers.items
     loaded.catalog_pages.data_pages.items) (nobody : waits ≡ []) (none : works ≡ []) (unnoted : directories ≡ record { most = MOST_NOTED; dirs = []; too_large = [] }) where
@@ -69,6 +70,7 @@ module _ {D : Type 0} (m : Meaning D) (disk : D) (limit : ℕ) (before after : P
     geometry = subst IsGeometry (sym keeps.geometry) prepared.geometry;
     list = is.list;
     size = is.size_is ∙ sym (ap (λ (g : Geometry). g.size) keeps.geometry);
+    tips = tips_by before.geometry after.geometry loaded.list keeps.geometry is.tips;
     next = is.undecided.next;
     drawn = is.undecided.drawn;
     active = record {

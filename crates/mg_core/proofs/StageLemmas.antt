@@ -26,6 +26,7 @@ use Rattle.mg_core.specs.Cores.{IsCore}
 use Rattle.mg_core.specs.Obstacles.{HindersBy, IsPassed, Passes, Stops, hindered, unread}
 use Rattle.mg_core.specs.Reading.{FailsReading, OnlyReads}
 use Rattle.mg_core.specs.Refusing.{CountsFault, IsRefusal}
+use Rattle.mg_txlist.specs.TipLaws.{tips_by}
 
 -- another cache over the same geometry, works of the same transactions, other waits and counts
 pub core_on : {D : Type 0} (m : Meaning D) (old new : Core D) (store : Pool D FireLinks) (waits : List (ℕ × ℕ))
@@ -45,6 +46,7 @@ core_on {D} m old new store waits works damage shortages is pool geometry active
       geometry = subst IsGeometry (sym geometry) is.geometry;
       list = is.list;
       size = is.size ∙ ap (λ (g : Geometry). g.size) (sym geometry);
+      tips = tips_by old.store.geometry store.geometry old.list geometry is.tips;
       catalog = is.catalog;
       next = is.next;
       drawn = is.drawn;

@@ -31,6 +31,7 @@ use Rattle.mg_core.specs.Cores.{Continues, IsCore}
 use Rattle.mg_core.specs.Refusing.{CountsFault, IsRefusal}
 use Rattle.mg_core.specs.Tables.{AnswersTable, FindsSeen, IsLawfulOr, KeepsTable, LacksTable, ReadsPages, SeesTable, WhyNoTable, by_fault, by_memory}
 use Rattle.mg_core.proofs.CoreLemmas.{core_made, with_same}
+use Rattle.mg_txlist.specs.TipLaws.{tips_by}
 
 -- ---- the cache has only read
 
@@ -43,6 +44,7 @@ core_read m core store damage shortages is keeps = record {
   geometry = subst IsGeometry (sym keeps.geometry) is.geometry;
   list = is.list;
   size = is.size ∙ sym (ap (λ (g : Geometry). g.size) keeps.geometry);
+  tips = tips_by core.store.geometry store.geometry core.list keeps.geometry is.tips;
   next = is.next;
   drawn = is.drawn;
   active = is.active;

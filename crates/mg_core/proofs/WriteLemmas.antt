@@ -75,6 +75,7 @@ core_noted m core dirs is = record {
   geometry = is.geometry;
   list = is.list;
   size = is.size;
+  tips = is.tips;
   next = is.next;
   drawn = is.drawn;
   active = is.active;

@@ -11,7 +11,7 @@ use Rattle.mg_model.specs.declared.table.Table.{Table}
 use Rattle.mg_pool.specs.Pool.{IsPool}
 use Rattle.mg_snap.specs.Live.{AreDrawn}
 use Rattle.mg_space.specs.Taking.{IsGeometry}
-use Rattle.mg_txlist.specs.TxList.{IsTxList, next_said, said}
+use Rattle.mg_txlist.specs.TxList.{IsTxList, TipsAreBelow, next_said, said}
 use Rattle.mg_works.specs.Works.{Working, work_of}
 use Rattle.mg_core.specs.declared.parts.Core.{Core}
 
@@ -33,6 +33,7 @@ pub record IsCore {D : Type 0} (m : Meaning D) (core : Core D) : Type 0 where
   pub geometry : IsGeometry core.store.geometry
   pub list : IsTxList core.list
   pub size : core.list.size ≡ core.store.geometry.size
+  pub tips : TipsAreBelow core.store.geometry.limit core.list
   pub next : core.live.next ≡ next_said core.list
   pub drawn : AreDrawn core.live
   pub active : AreActive (said core.list) core.works

@@ -13,7 +13,7 @@ use Rattle.mg_format.specs.Format.{IsClean}
 use Rattle.mg_model.specs.declared.refusal.Refusal.{Refusal}
 use Rattle.mg_model.specs.declared.refusal.Refusal.TheVariants as refusals
 use Rattle.mg_pool.specs.Fault.{TellsFault}
-use Rattle.mg_pool.specs.Pool.{shown}
+use Rattle.mg_pool.specs.Pool.{HasAtMost, shown}
 use Rattle.mg_pool.specs.declared.fault.PoolFault.{PoolFault}
 use Rattle.mg_pool.specs.declared.pool.Pool.{Pool}
 use Rattle.mg_space.specs.View.{KeepsStore, Tells}
@@ -79,7 +79,7 @@ IsOpenRefusal (Space fault) refusal = IsRefusal fault refusal
 -- why a disk is not opened, and what becomes of it: it was not prepared, or its pages were not read
 pub data RefusesOpen {D : Type 0} (m : Meaning D) (disk new : D) (limit : ℕ) (refusal : Refusal) : Type 0
   where
-    unprepared : (fault : OpenFault) → IsOpenRefusal fault refusal → FailsToPrepare m disk new fault
+    unprepared : (fault : OpenFault) → IsOpenRefusal fault refusal → FailsToPrepare m disk new limit fault
         → RefusesOpen m disk new limit refusal
     unread : (fault : OpenFault) → IsOpenRefusal fault refusal → FailsToRead m disk new limit fault
         → RefusesOpen m disk new limit refusal
@@ -104,3 +104,5 @@ pub record ClosesDisk {D : Type 0} (m : Meaning D) (old : Pool D FireLinks) (dis
   pub is : IsAnswer ended result
   pub finishes : Finishes m old new ended
   pub same : IsSameDisk m old.disk disk
+  -- the disk has no more pages than the page limit
+  pub within : HasAtMost m disk old.geometry.limit

@@ -20,8 +20,8 @@ impl<D: Disk> Core<D> {
     /// other is not written. Then page 0 and the transaction inventory pages are read, and the pages of the
     /// catalog are read and tested, as pages. Its rows are read when a table is asked for.
     ///
-    /// The page limit is the greater of `limit` and the disk's number of pages, and at most 131,072; pages
-    /// past that are neither read nor written.
+    /// The page limit is the greatest of `limit`, the disk's number of pages, and the seven of a new database;
+    /// the disk never has more pages than that. Pages from 131,072 on are neither read nor written.
     ///
     /// # Errors
     ///

@@ -8,7 +8,7 @@ use Rattle.mg_pool.specs.Dirty.{content_of}
 use Rattle.mg_base.specs.declared.geometry.Geometry.{Geometry}
 use Rattle.mg_base.specs.declared.numbers.PageNo.{PageNo}
 use Rattle.mg_pool.specs.Fault.{OnlyRefuses, OnlyWrites, TellsFault}
-use Rattle.mg_pool.specs.Pool.{IsPool, KeepsContent, shown}
+use Rattle.mg_pool.specs.Pool.{HasAtMost, IsPool, KeepsContent, shown}
 use Rattle.mg_pool.specs.Refusal.{LeavesRefused}
 use Rattle.mg_pool.specs.Run.{HasWritten}
 use Rattle.mg_pool.specs.declared.fault.PoolFault.{PoolFault}
@@ -70,6 +70,22 @@ writing_same {D} m old new count pool fails = sized_alike m old new pool fails.f
 pub all_same : {D : Type 0} (m : Meaning D) (old new : Pool D FireLinks) (fault : PoolFault) → IsPool m old
     → WritesAll m old new (Err fault) → IsSameDisk m old.disk new.disk
 all_same m old new fault pool fails = writing_same m old new fails.0 pool fails.2
+
+-- and it has no more pages than the page limit
+pub all_within : {D : Type 0} (m : Meaning D) (old new : Pool D FireLinks) (fault : PoolFault)
+    → WritesAll m old new (Err fault) → HasAtMost m new.disk old.geometry.limit
+all_within {D} m old new fault all = at all.2
+  where
+    at : FailsWriting m old new all.0 → HasAtMost m new.disk old.geometry.limit
+    at fails = subst (λ (g : Geometry). HasAtMost m new.disk g.limit)
+        (ap (λ (s : Pool D FireLinks). s.geometry) fails.fails.fails.same
+        ∙ (fails.fails.written.geometry ∙ same_geometry m fails.run.between old fails.mid fails.run.run))
+        fails.fails.fails.pool.within
+
+pub settled_within : {D : Type 0} (m : Meaning D) (old mid new : Pool D FireLinks) → IsPool m new
+    → HasWrittenOn m old mid → new.geometry ≡ mid.geometry → HasAtMost m new.disk old.geometry.limit
+settled_within m old mid new after run same = subst (λ (g : Geometry). HasAtMost m new.disk g.limit)
+    (same ∙ same_geometry m run.between old mid run.run) after.within
 
 -- and where it was settled, or that failed
 pub settled_same : {D : Type 0} (m : Meaning D) (old mid new : Pool D FireLinks) → IsPool m old → IsPool m new

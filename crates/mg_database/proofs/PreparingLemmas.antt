@@ -8,7 +8,7 @@ use Rattle.mg_base.specs.Moments.{goes_on, joined, leaves_as, started}
 use Rattle.mg_base.specs.declared.geometry.Geometry.{Geometry}
 use Rattle.mg_format.specs.Format.{FormatDone, IsClean, IsFresh, IsUnmadeImage, LeavesNew, SaysAlike}
 use Rattle.mg_pool.specs.Fault.{OnlyWrites, TellsFault}
-use Rattle.mg_pool.specs.Pool.{IsPool, KeepsContent}
+use Rattle.mg_pool.specs.Pool.{HasAtMost, IsPool, KeepsContent}
 use Rattle.mg_pool.specs.declared.fault.PoolFault.{PoolFault}
 use Rattle.mg_pool.specs.declared.fault.PoolFault.TheVariants as faults
 use Rattle.mg_pool.specs.declared.pool.Pool.{Pool}
@@ -39,8 +39,15 @@ made_by m old new (Ok x) online pool geometry clean own told says done = record 
   done = done;
 }
 made_by m old new (Err (faults.DiskRead n)) online pool geometry clean own told says done = absurd own
-made_by m old new (Err (faults.DiskWrite n)) online pool geometry clean own told says done =
-    (n, refl, told.2.2, pool.size ∙ ap (λ (g : Geometry). Some g.size) geometry, says, done)
+made_by m old new (Err (faults.DiskWrite n)) online pool geometry clean own told says done = (
+  n,
+  refl,
+  told.2.2,
+  pool.size ∙ ap (λ (g : Geometry). Some g.size) geometry,
+  says,
+  subst (λ (g : Geometry). HasAtMost m new.disk g.limit) geometry pool.within,
+  done,
+)
 made_by m old new (Err (faults.Offline n)) online pool geometry clean own told says done =
     absurd (let no : None ≡ Some n = sym online ∙ told.0 in cc)
 made_by m old new (Err (faults.Absent n)) online pool geometry clean own told says done = absurd own
@@ -72,7 +79,7 @@ module _ {D : Type 0} (m : Meaning D) (disk asked : D) (limit : ℕ) (it : Surve
     (clean : IsClean old) (online : old.offline ≡ None) where
   pub lawful_geometry : IsGeometry old.geometry
   lawful_geometry = subst IsGeometry (sym geometry_is)
-      (record { size = surveyed.lawful; limit = surveyed.most })
+      (record { size = surveyed.lawful })
 
   size_is : it.geometry.size ≡ old.geometry.size
   size_is = sym (ap (λ (g : Geometry). g.size) geometry_is)
@@ -152,37 +159,38 @@ module _ {D : Type 0} (m : Meaning D) (disk asked : D) (limit : ℕ) (it : Surve
       same_size = sym (ap (λ (g : Geometry). g.size) makes.geometry)
 
   pub not_prepared : (b : Bool) (fault : PoolFault) → it.unmade ≡ b → MakesIf m b old new (Err fault)
-      → FailsToPrepare m disk new.disk (Space (space.Pool fault))
+      → FailsToPrepare m disk new.disk limit (Space (space.Pool fault))
   not_prepared false fault is makes = absurd makes
-  not_prepared true fault is makes = subst (λ (f : PoolFault). FailsToPrepare m disk new.disk (Space (space.Pool f)))
+  not_prepared true fault is makes = subst (λ (f : PoolFault). FailsToPrepare m disk new.disk limit (Space (space.Pool f)))
       (sym makes.1) (unmade makes.0 (record {
         size = old.geometry.size;
         sized = makes.3;
         unmade = told_unmade is;
         leaves = λ image tells. since new.disk old.geometry.size (Err (faults.DiskWrite makes.0)) image tells
-            (makes.5 image (is_fresh is image tells));
+            (makes.6 image (is_fresh is image tells));
         rose = subst (λ (n : ℕ). Rose n (m.faults new.disk)) steady_of_old makes.2;
         same = same_then new.disk makes.3 makes.4;
+        within = λ image held. subst (λ (n : ℕ). HasAtMost m new.disk n) (limit_of_old image held) makes.5;
       }))
 
   -- the same, as the disk comes back and the fault is told
   pub not_prepared_as : (b : Bool) (fault : PoolFault) (back : D) (told : OpenFault) → it.unmade ≡ b
       → MakesIf m b old new (Err fault) → back ≡ new.disk → told ≡ Space (space.Pool fault)
-      → FailsToPrepare m disk back told
+      → FailsToPrepare m disk back limit told
   not_prepared_as b fault back told is makes back_is told_is =
-      subst (λ (d : D). FailsToPrepare m disk d told) (sym back_is)
-      (subst (FailsToPrepare m disk new.disk) (sym told_is) (not_prepared b fault is makes))
+      subst (λ (d : D). FailsToPrepare m disk d limit told) (sym back_is)
+      (subst (FailsToPrepare m disk new.disk limit) (sym told_is) (not_prepared b fault is makes))
 
 -- the disk's first calls failed
-pub not_asked : {D T E : Type 0} (m : Meaning D) (disk asked : D) (error : E) (count : ℕ) (told : OpenFault)
+pub not_asked : {D T E : Type 0} (m : Meaning D) (disk asked : D) (limit : ℕ) (error : E) (count : ℕ) (told : OpenFault)
     → OnlyAsks {T = T} m disk asked (Err error) → IsSameDisk m disk asked → told ≡ Space (space.Pool (faults.DiskRead count))
-    → FailsToPrepare m disk asked told
-not_asked m disk asked error count told asks same is = subst (FailsToPrepare m disk asked) (sym is)
+    → FailsToPrepare m disk asked limit told
+not_asked m disk asked limit error count told asks same is = subst (FailsToPrepare m disk asked limit) (sym is)
     (unasked count asks.content same (asks.cause refl))
 
 -- there was no memory for the cache
-pub not_held : {D : Type 0} (m : Meaning D) (disk asked back : D) (told : OpenFault)
+pub not_held : {D : Type 0} (m : Meaning D) (disk asked back : D) (limit : ℕ) (told : OpenFault)
     → KeepsContent m disk asked → IsSameDisk m disk asked → m.faults asked ≡ m.faults disk → back ≡ asked → told ≡ Space (space.Pool faults.Memory)
-    → FailsToPrepare m disk back told
-not_held {D} m disk asked back told asks same steady back_is is = subst (λ (d : D). FailsToPrepare m disk d told) (sym back_is)
-    (subst (FailsToPrepare m disk asked) (sym is) (no_memory asks same steady))
+    → FailsToPrepare m disk back limit told
+not_held {D} m disk asked back limit told asks same steady back_is is = subst (λ (d : D). FailsToPrepare m disk d limit told) (sym back_is)
+    (subst (FailsToPrepare m disk asked limit) (sym is) (no_memory asks same steady))

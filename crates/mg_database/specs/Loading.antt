@@ -27,7 +27,7 @@ use Rattle.mg_space.specs.declared.links.FireLinks.{FireLinks}
 use Rattle.mg_txlist.specs.Chain.{HasHead}
 use Rattle.mg_txlist.specs.Reading.{is_head_or_tip}
 use Rattle.mg_txlist.specs.Refusals.{RefusesLoad}
-use Rattle.mg_txlist.specs.TxList.{IsTxList, next_said, said}
+use Rattle.mg_txlist.specs.TxList.{IsTxList, TipsAreBelow, next_said, said}
 use Rattle.mg_txlist.specs.declared.list.TipPage.{TipPage}
 use Rattle.mg_txlist.specs.declared.list.TxList.{TxList}
 use Rattle.mg_database.specs.declared.fault.OpenFault.{OpenFault}
@@ -52,9 +52,10 @@ markers_in header = record {
 }
 
 -- What was read is lawful by itself.
-pub record IsLoaded (size : ℕ) (loaded : Loaded) : Type 0 where
+pub record IsLoaded (g : Geometry) (loaded : Loaded) : Type 0 where
   pub list : IsTxList loaded.list
-  pub size_is : loaded.list.size ≡ size
+  pub size_is : loaded.list.size ≡ g.size
+  pub tips : TipsAreBelow g.limit loaded.list
   pub undrawn : loaded.list.own.items ≡ []
   pub idle : (t : ℕ) → said loaded.list t ≢ Active
   pub undecided : AreUndecided loaded.list loaded.live

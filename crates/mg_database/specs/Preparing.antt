@@ -3,7 +3,7 @@ use Rattle.std.specs.Prelude.{◌≡◌, ℕ, Bool, true, false, length, None, S
 use Rattle.mg_base.specs.Disk.{Meaning, Rose}
 use Rattle.mg_base.specs.Image.{Image}
 use Rattle.mg_format.specs.Format.{FormatDone, IsClean, IsFresh, IsUnmadeImage, SaysAlike}
-use Rattle.mg_pool.specs.Pool.{IsPool, KeepsContent}
+use Rattle.mg_pool.specs.Pool.{HasAtMost, IsPool, KeepsContent}
 use Rattle.mg_pool.specs.declared.fault.PoolFault.{PoolFault}
 use Rattle.mg_pool.specs.declared.fault.PoolFault.TheVariants as faults
 use Rattle.mg_pool.specs.declared.pool.Pool.{Pool}
@@ -41,7 +41,7 @@ pub record IsPrepared {D : Type 0} (m : Meaning D) (disk : D) (limit : ℕ) (sto
   pub same : IsSameDisk m disk store.disk
 
 -- A new database was not made, as one might have been: a page write or the settling failed.
-pub record FailsToMake {D : Type 0} (m : Meaning D) (old new : D) (count : ℕ) : Type 0 where
+pub record FailsToMake {D : Type 0} (m : Meaning D) (old new : D) (limit count : ℕ) : Type 0 where
   pub size : ℕ
   pub sized : m.size new ≡ Some size
   pub unmade : (image : Image) → m.held old ≡ Some image → IsUnmadeImage size image
@@ -49,20 +49,22 @@ pub record FailsToMake {D : Type 0} (m : Meaning D) (old new : D) (count : ℕ) 
       → FormatDone m old new size (Err (faults.DiskWrite count))
   pub rose : Rose (m.faults old) (m.faults new)
   pub same : IsSameDisk m old new
+  -- the disk has no more pages than the page limit
+  pub within : (image : Image) → m.held old ≡ Some image → HasAtMost m new (limit_of limit (length image))
 
 -- why a disk does not become one whose pages may be read, and what becomes of it
-pub data FailsToPrepare {D : Type 0} (m : Meaning D) (old new : D) : OpenFault → Type 0 where
+pub data FailsToPrepare {D : Type 0} (m : Meaning D) (old new : D) (limit : ℕ) : OpenFault → Type 0 where
   unasked : (count : ℕ) → KeepsContent m old new → IsSameDisk m old new → Rose (m.faults old) (m.faults new)
-      → FailsToPrepare m old new (Space (space.Pool (faults.DiskRead count)))
+      → FailsToPrepare m old new limit (Space (space.Pool (faults.DiskRead count)))
   no_memory : KeepsContent m old new → IsSameDisk m old new → m.faults new ≡ m.faults old
-      → FailsToPrepare m old new (Space (space.Pool faults.Memory))
-  unmade : (count : ℕ) → FailsToMake m old new count
-      → FailsToPrepare m old new (Space (space.Pool (faults.DiskWrite count)))
+      → FailsToPrepare m old new limit (Space (space.Pool faults.Memory))
+  unmade : (count : ℕ) → FailsToMake m old new limit count
+      → FailsToPrepare m old new limit (Space (space.Pool (faults.DiskWrite count)))
 
 abbrev pub PreparesDisk : {D : Type 0} → Meaning D → D → ℕ
     → Result (Pool D FireLinks) (D × OpenFault) → Type 0
 PreparesDisk m disk limit (Ok store) = IsPrepared m disk limit store
-PreparesDisk m disk limit (Err both) = FailsToPrepare m disk both.0 both.1
+PreparesDisk m disk limit (Err both) = FailsToPrepare m disk both.0 limit both.1
 
 -- A new database was written, as far as the disk tells its images.
 pub record Makes {D : Type 0} (m : Meaning D) (old new : Pool D FireLinks) : Type 0 where
@@ -85,5 +87,6 @@ MakesIf {D} m true old new (Err fault) = (count : ℕ) × (fault ≡ faults.Disk
     × Rose (m.faults old.disk) (m.faults new.disk)
     × (m.size new.disk ≡ Some old.geometry.size)
     × SaysAlike m old.disk new.disk
+    × HasAtMost m new.disk old.geometry.limit
     × ((image : Image) → IsFresh m old image
     → FormatDone m old.disk new.disk old.geometry.size (Err (faults.DiskWrite count)))

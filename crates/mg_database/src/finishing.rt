@@ -1,7 +1,7 @@
 //! The pages are written at the end.
 
 ghost use Rattle.std.specs.Prelude.{◌≡◌, None};
-ghost use Rattle.mg_pool.specs.Pool.{IsPool};
+ghost use Rattle.mg_pool.specs.Pool.{HasAtMost, IsPool};
 ghost use Rattle.mg_survey.specs.Survey.{IsSameDisk};
 ghost use Rattle.mg_database.specs.Finishing.{Finishes, WritesAll};
 
@@ -19,6 +19,7 @@ pub fn finish<D: Disk>(store: &mut Store<D>) -> Result<(), PoolFault>
     requires { IsPool D.meaning store.old }
     ensures ends { Finishes D.meaning store.old store.new result }
     ensures same { IsSameDisk D.meaning store.old.disk store.new.disk }
+    ensures within { HasAtMost D.meaning store.new.disk store.old.geometry.limit }
 {
     match store.online() {
         Ok(()) => {}

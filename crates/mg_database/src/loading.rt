@@ -55,7 +55,7 @@ pub fn load<D: Disk>(store: &mut Store<D>) -> Result<Loaded, OpenFault>
     requires online { store.old.offline ≡ None }
 
     ensures keeps { KeepsStore D.meaning store.old store.new }
-    ensures lawful { IfOk result (IsLoaded store.old.geometry.size) }
+    ensures lawful { IfOk result (IsLoaded store.old.geometry) }
     ensures fault { TellsFault D.meaning store.old store.new (cache_answer result) }
     ensures own { OpensAlone result }
     ensures says { (image : Image) → Tells D.meaning store.old.disk image → IfOk result (λ loaded.

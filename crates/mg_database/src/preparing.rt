@@ -1,6 +1,6 @@
 //! A disk becomes one whose pages may be read.
 
-ghost use Rattle.std.specs.Prelude.{◌≡◌, None};
+ghost use Rattle.std.specs.Prelude.{◌≡◌, ◌≤◌, None};
 ghost use Rattle.mg_format.specs.Format.{IsClean};
 ghost use Rattle.mg_pool.specs.Pool.{IsPool};
 ghost use Rattle.mg_space.specs.Taking.{IsGeometry};
@@ -17,8 +17,8 @@ use std::alloc::Global;
 /// A cache over a disk, whose pages may be read. Where a database may be made on the disk, a new one is
 /// written first, its header last; any other disk is not written.
 ///
-/// The page limit is the greater of `limit` and the disk's number of pages, and at most 131,072; pages past
-/// that are neither read nor written. Where page 0 is not zero, no other page is read.
+/// The page limit is the greater of `limit` and the disk's number of pages, and at least seven, as many as a
+/// new database has. No page past it is written. Where page 0 is not zero, no other page is read.
 ///
 /// # Errors
 ///
@@ -50,6 +50,7 @@ pub fn prepare<D: Disk>(alloc: Global, disk: D, limit: u32) -> Result<Store<D>, 
 fn make_if<D: Disk>(store: &mut Store<D>, unmade: bool) -> Result<(), PoolFault>
     requires pool { IsPool D.meaning store.old }
     requires geometry { IsGeometry store.old.geometry }
+    requires room { 7 ≤ store.old.geometry.limit }
     requires clean { IsClean store.old }
     requires online { store.old.offline ≡ None }
     ensures { MakesIf D.meaning unmade store.old store.new result }

@@ -242,7 +242,7 @@ module _ (g : Geometry) (t : ℕ) (old new : Pages) (settled : ℕ → Bool) (on
           off_inventory = takes.free.no_inventory;
           used = takes_bit g old taken n lawful takes;
           small = (
-            let below = takes.free.below in let most = lawful.limit in omega (arith, below, most),
+            let below = takes.free.below in omega (arith, below),
             (let most = says.most in let less = div-le_self t (places size) in omega (arith, most, less)),
             (let low_ = says.last in omega (arith, low_)),
           );

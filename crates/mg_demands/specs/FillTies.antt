@@ -120,7 +120,7 @@ module _ {D L : Type 0} (store : Pool D L) (image : Image) (t : ℕ) (orders : O
     here = viewed_here store image takes.taken new page bytes takes.puts
 
     page_small : page < 2 ^ 32
-    page_small = let below = takes.takes.free.below in let limit = knows.lawful.limit in omega (arith, below, limit)
+    page_small = let below = takes.takes.free.below in omega (arith, below)
 
     unwanted : IsUnwanted (either wanted (listed bit)) page
     unwanted d h = elim (either_cases wanted (listed bit) d h) [
@@ -208,8 +208,7 @@ module _ {D L : Type 0} (store : Pool D L) (image : Image) (t : ℕ) (orders : O
       };
       root = has_back bit root (want_of page POINTER page 0) (inl refl);
       bit = has_front bit root (want_of (inventory_page size (region_of size page)) BIT page 0)
-          (bit_wanted size page (let below = takes.takes.free.below in let limit = knows.lawful.limit in
-          omega (arith, below, limit)));
+          (bit_wanted size page (let below = takes.takes.free.below in omega (arith, below)));
     }
 
   -- ---- rows of the catalog

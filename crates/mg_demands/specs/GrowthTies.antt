@@ -25,7 +25,7 @@ use Rattle.mg_pool.specs.Batch.{Changed, lists}
 use Rattle.mg_pool.specs.declared.pool.Pool.{Pool}
 use Rattle.mg_slots.specs.DataPage.{IsNewPage, cell_of, slot_count}
 use Rattle.mg_slots.specs.declared.page.TheConstants.{DATA_KIND, LOW_AT}
-use Rattle.mg_space.specs.Taking.{IsGeometry, region_of}
+use Rattle.mg_space.specs.Taking.{IsGeometry, region_of, taking_limit}
 use Rattle.mg_space.specs.Demands.{bit_demand, cell_demands, demands_of, slot_demands}
 use Rattle.mg_space.specs.TakingLaws.{page_sizes, takes_bit, takes_keeps}
 use Rattle.mg_space.specs.View.{viewed}
@@ -96,8 +96,8 @@ module _ {D L : Type 0} (store : Pool D L) (image : Image) (old new : Changed) (
   last_taken : IsTaken g.size view q
   last_taken = pointer_taken g.size view wanted was q owner at head its.last
 
-  small_n : (n : ℕ) → n < g.limit → n < 2 ^ 32
-  small_n n below = let limit = lawful.limit in omega (arith, below, limit)
+  small_n : (n : ℕ) → n < taking_limit g → n < 2 ^ 32
+  small_n n below = omega (arith, below)
 
   module _ (n : ℕ) (bytes : List ℕ) (lists_ : ListsInLast g store image old new owner place q n (view q) bytes) where
     here : viewed store image lists_.made n ≡ bytes

@@ -23,7 +23,7 @@ use Rattle.mg_pool.specs.Batch.{Changed}
 use Rattle.mg_pool.specs.declared.pool.Pool.{Pool}
 use Rattle.mg_slots.specs.declared.page.TheConstants.{DATA_KIND}
 use Rattle.mg_space.specs.Demands.{bit_demand}
-use Rattle.mg_space.specs.Taking.{IsGeometry, TakesPage, region_of}
+use Rattle.mg_space.specs.Taking.{IsGeometry, TakesPage, region_of, taking_limit}
 use Rattle.mg_space.specs.TakingLaws.{takes_keeps}
 use Rattle.mg_space.specs.View.{viewed}
 use Rattle.mg_space.specs.ViewLaws.{viewed_else, viewed_here}
@@ -124,8 +124,8 @@ module _ {D L : Type 0} (store : Pool D L) (image : Image) (old new : Changed) (
   in_use : (m who k : ℕ) → IsIn wanted (want_of m POINTER who k) → is_used width view m ≡ true
   in_use m who k h = was.used (want_of m POINTER who k) h
 
-  below_all : (m : ℕ) → m < store.geometry.limit → m < GREATEST_LIMIT
-  below_all m below = let limit = lawful.limit in omega (arith, below, limit)
+  below_all : (m : ℕ) → m < taking_limit store.geometry → m < GREATEST_LIMIT
+  below_all m below = omega (arith, below)
 
   -- ---- the last pointer page lists a new data page
 

@@ -175,9 +175,9 @@ unfolding demand
 bit_there g old new n lawful takes = rw (low, small) (inl refl)
   where
     low : nat_lt (inventory_page g.size (region_of g.size n)) 4294967296 ≡ true
-    low = let limit = lawful.limit in let region = takes.free.region in
-        lt-ltb (inventory_page g.size (region_of g.size n)) 4294967296 (omega (arith, limit, region))
+    low = let region = takes.free.region in
+        lt-ltb (inventory_page g.size (region_of g.size n)) 4294967296 (omega (arith, region))
 
     small : nat_lt n 4294967296 ≡ true
-    small = let limit = lawful.limit in let below = takes.free.below in
-        lt-ltb n 4294967296 (omega (arith, limit, below))
+    small = let below = takes.free.below in
+        lt-ltb n 4294967296 (omega (arith, below))

@@ -72,6 +72,9 @@ pub record IsDevice {V : Type 0} (m : DeviceMeaning V) : Type 0 where
   pub may_leave : (v : V) (t : ℕ) (image c : Image) → m.tells v ≡ true → m.synced v ≡ Some image → t ≤ m.moment v
       → Reaches image (m.pending v) c → m.left v t c
   pub counted : (v : V) (image : Image) (n : ℕ) → m.synced v ≡ Some image → m.count v ≡ Some n → length (after_writes image (m.pending v)) ≡ n
+  -- what a crash at any moment might have left has no more pages than it holds: it never loses one
+  pub never_shrinks : (v : V) (t : ℕ) (image c : Image) → m.tells v ≡ true → m.synced v ≡ Some image → m.left v t c
+      → length c ≤ length (after_writes image (m.pending v))
 
 -- a call that writes nothing and syncs nothing
 pub record Rests {V T E : Type 0} (m : DeviceMeaning V) (old new : V) (result : Result T E) : Type 0 where

@@ -60,6 +60,16 @@ module _ {V : Type 0} (m : DeviceMeaning V) (law : IsDevice m) where
           let same : after_writes base (m.pending v) ≡ image = let h = holds in cc in
           ap (λ (i : Image). length i) (sym same) ∙ law.counted v base n synced is
 
+  pub device_never_shrinks : (v : V) (t : ℕ) (c image : Image) → m.tells v ≡ true → m.left v t c → (as_disk m).held v ≡ Some image
+      → length c ≤ length image
+  device_never_shrinks v t c image told left held =
+      let base = law.told v told in
+      let same : after_writes base.0 (m.pending v) ≡ image = some_is (sym (ap (λ s. written_through s (m.pending v)) base.1) ∙ held) in
+      subst (λ (i : Image). length c ≤ length i) same (law.never_shrinks v t base.0 c told base.1 left)
+    where
+      some_is : {a b : Image} → Some a ≡ Some b → a ≡ b
+      some_is is = let i = is in cc
+
   -- what a crash may leave depends on what was synced and on what is pending alone
   pub same_crash : (old new : V) (c : Image) → m.tells old ≡ true → m.tells new ≡ m.tells old → m.synced new ≡ m.synced old → m.pending new ≡ m.pending old
       → MayLeave (as_disk m) new c → MayLeave (as_disk m) old c

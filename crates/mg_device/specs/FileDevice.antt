@@ -31,4 +31,5 @@ file_device = record {
   leaves = λ d image c told synced left. absurd left;
   may_leave = λ d t image c told synced le reaches. absurd (let s = told in cc);
   counted = λ d image n synced is. absurd (let s = synced in cc);
+  never_shrinks = λ d t image c told synced left. absurd left;
 }

@@ -2,6 +2,8 @@ pub mod Device
 pub mod DeviceLaws
 pub mod FileDevice
 pub mod Forced
+pub mod Growing
+pub mod GrowingLaws
 pub mod MemDevice
 pub mod MemDeviceLaws
 pub mod Unordered

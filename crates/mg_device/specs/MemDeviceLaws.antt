@@ -1,5 +1,5 @@
 -- A device in memory keeps to what every device keeps to.
-use Rattle.std.specs.Prelude.{◌≡◌, ℕ, ◌<◌, length, take}
+use Rattle.std.specs.Prelude.{◌≡◌, ℕ, ◌<◌, ◌≤◌, length, take}
 use Rattle.std.proofs.Common.{refl, arith, ap, sym, ◌∙◌, get_or, subst}
 use Rattle.std.proofs.lemmas.List.{get_or-take, length-take}
 use Rattle.mg_base.specs.Image.{Image}
@@ -9,7 +9,7 @@ use Rattle.mg_base.specs.declared.mem_disk.MemDisk.{MemDisk}
 use Rattle.mg_base.specs.declared.obeyed.Obeyed.{Obeyed}
 use Rattle.mg_device.specs.Device.{IsDevice, after_writes, Reaches}
 use Rattle.mg_device.specs.MemDevice.{mem_device_meaning}
-use Rattle.mg_device.specs.Unordered.{pending_in, synced_in, through_acts, unordered_leaves, unordered_now}
+use Rattle.mg_device.specs.Unordered.{pending_in, synced_in, through_acts, unordered_few, unordered_leaves, unordered_now}
 
 -- what the disk in memory holds is what was synced with what is pending
 pub through : (d : MemDisk) → image_of d.size (acts_in d) ≡ after_writes (synced_in (acts_in d)) (pending_in (acts_in d))
@@ -35,4 +35,7 @@ mem_device = record {
       let same : image ≡ synced_in (acts_in d.disk) = let s = synced in cc in
       let used : d.disk.used ≡ n = let i = is in cc in
       ap (λ (i : Image). length (after_writes i (pending_in (acts_in d.disk)))) same ∙ ap (λ (i : Image). length i) (sym (through d.disk)) ∙ d.disk.kept.count ∙ used;
+  never_shrinks = λ d t image c told synced left.
+      let same : synced_in (acts_in d.disk) ≡ image = let s = synced in cc in
+      subst (λ (i : Image). length c ≤ length (after_writes i (pending_in (acts_in d.disk)))) same (unordered_few (acts_in d.disk) t c left);
 }

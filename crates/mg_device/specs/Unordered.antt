@@ -1,10 +1,10 @@
 -- What acts on a device in memory mean, the newest act first, where page writes reach it in any order until a sync.
-use Rattle.std.specs.Prelude.{◌≡◌, ◌⊎◌, ℕ, ◌≤◌, ◌<◌, zero, suc, Bool, true, false, List, [], ◌∷◌, length, fold, if◌then◌else◌}
+use Rattle.std.specs.Prelude.{◌≡◌, ◌⊎◌, ℕ, ◌+◌, ◌≤◌, ◌<◌, ◌++◌, max, zero, suc, Bool, true, false, List, [], ◌∷◌, length, fold, if◌then◌else◌}
 use Rattle.std.proofs.Common.{refl, inl, inr, arith, get_or}
-use Rattle.mg_base.specs.Image.{Image}
+use Rattle.mg_base.specs.Image.{Image, length-written}
 use Rattle.mg_base.specs.Acts.{Act, Write, Settle, acts_of, after_obeyed, image_of}
 use Rattle.mg_base.specs.declared.obeyed.Obeyed.{Obeyed}
-use Rattle.mg_device.specs.Device.{PageWrite, Reaches, after_writes}
+use Rattle.mg_device.specs.Device.{PageWrite, Reaches, after_write, after_writes, first, none}
 
 -- the page writes since the last sync, the newest first
 abbrev pub pending_in : List Act → List PageWrite
@@ -33,6 +33,45 @@ pub unordered_leaves : (acts : List Act) (c : Image) → LeftUnordered acts (len
 unordered_leaves [] c left = left
 unordered_leaves (act ∷ acts) c (inl now) = now
 unordered_leaves (act ∷ acts) c (inr (le, _)) = absurd (omega arith)
+
+-- No page goes: what some of the page writes leave, and what a crash at an earlier moment might have left, has no more pages
+-- than all of them leave.
+
+-- up to which page the page writes go
+abbrev top : List PageWrite → ℕ
+top [] = 0
+top (w ∷ ws) = max (top ws) (w.page + 1)
+
+top_append : (before after : List PageWrite) → top (before ++ after) ≡ max (top before) (top after)
+top_append [] after = omega arith
+top_append (w ∷ before) after = omega (arith, top_append before after)
+
+length_after : (image : Image) (ws : List PageWrite) → length (after_writes image ws) ≡ max (length image) (top ws)
+length_after image [] = omega arith
+length_after image (w ∷ ws) =
+    omega (arith, length_after image ws, length-written (length w.bytes) (after_writes image ws) w.page w.bytes)
+
+reaches_top : (image : Image) (ws : List PageWrite) (c : Image) → Reaches image ws c → length c ≤ max (length image) (top ws)
+reaches_top image ws c none = omega arith
+reaches_top image ws c (first i before w after d reaches) =
+    omega (
+      arith,
+      reaches_top (after_write i w) (before ++ after) d reaches,
+      length-written (length w.bytes) i w.page w.bytes,
+      top_append before after,
+      top_append before (w ∷ after),
+    )
+
+pub reaches_few : (image : Image) (ws : List PageWrite) (c : Image) → Reaches image ws c → length c ≤ length (after_writes image ws)
+reaches_few image ws c reaches = omega (arith, reaches_top image ws c reaches, length_after image ws)
+
+pub unordered_few : (acts : List Act) (t : ℕ) (c : Image) → LeftUnordered acts t c
+    → length c ≤ length (after_writes (synced_in acts) (pending_in acts))
+unordered_few [] t c left = reaches_few [] [] c left
+unordered_few (act ∷ acts) t c (inl now) = reaches_few (synced_in (act ∷ acts)) (pending_in (act ∷ acts)) c now
+unordered_few (Write n bytes ∷ acts) t c (inr (le, past)) =
+    omega (arith, unordered_few acts t c past, length-written (length bytes) (after_writes (synced_in acts) (pending_in acts)) n bytes)
+unordered_few (Settle ∷ acts) t c (inr (le, past)) = unordered_few acts t c past
 
 -- time as it goes on over a list of acts
 pub record TimesUnordered (old new : List Act) : Type 0 where

@@ -2,7 +2,8 @@
 //! one. So the order of page writes, on which every promise of a crash rests, is proved, and not trusted.
 //!
 //! Owns: what a device means (`specs/Device.antt`), the wrapper that makes a disk of one, a device in
-//! memory, and the real file: one to work on, and one that is read alone.
+//! memory, and the real file: one to work on, and one that is read alone; and the trait `GrowingDisk`, a disk
+//! that loses no page.
 //!
 //! A device keeps no order: until a sync that answers Ok its page writes may reach it in any order
 //! and any subset, at any time; then they are there to stay. `ForcedWrites` syncs after each page
@@ -17,9 +18,11 @@
 mod device;
 mod file_device;
 mod forced;
+mod growing;
 mod mem_device;
 
 pub use device::Device;
 pub use file_device::{FileDevice, FileDisk};
 pub use forced::ForcedWrites;
+pub use growing::GrowingDisk;
 pub use mem_device::MemDevice;

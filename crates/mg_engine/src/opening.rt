@@ -22,8 +22,8 @@ impl<D: Disk> Engine<D> {
     /// in limbo have only made rows of the catalog, and its tables are plain (`BeginsWith`). Where a new one was made, the
     /// engine stands for the history of a new database that has no entry, if each page of the disk has the page size.
     ///
-    /// The page limit is the greater of `limit` and the disk's number of pages, and at most 131,072; pages past
-    /// that are neither read nor written.
+    /// The page limit is the greatest of `limit`, the disk's number of pages, and the seven of a new database; the disk
+    /// never has more pages than that. Pages from 131,072 on are neither read nor written.
     ///
     /// # Errors
     ///

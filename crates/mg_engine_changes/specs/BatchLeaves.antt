@@ -94,7 +94,7 @@ module _ (form : Form) (one : RowsAreOne form.coding) (none : HasNoSequences for
       every
 
   pub below : fills.page < 131072
-  below = let a = fills.takes.takes.free.below in let b = changes.geometry.limit in omega (arith, a, b)
+  below = let a = fills.takes.takes.free.below in omega (arith, a)
 
   pub batch_leaves : (of_state dead : ℕ → TxState) (a : Layout) (r : Reading)
       → IsSoundBy form before.geometry.size of_state (shown before.dirty i) a r

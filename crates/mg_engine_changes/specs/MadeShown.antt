@@ -230,7 +230,7 @@ module _ (one : RowsAreOne packed_coding) (begins : OpeningsBegin) (behind_keeps
   cat_named = ap (λ (x : Table). x.name) stands.shows.sound.catalog
 
   page_small : fills.page < 2 ^ 32
-  page_small = let a = fills.takes.takes.free.below in let b = was.changes.geometry.limit in omega (arith, a, b)
+  page_small = let a = fills.takes.takes.free.below in omega (arith, a)
 
   may : HoldsOfRows before.geometry.size (catalog_of (shown before.dirty i)) t.0 (rows_at name shape fills.page)
       (IsRowOf packed_form before.geometry.size t.0 s.state (shown before.dirty i))

@@ -69,6 +69,7 @@ module _ (works_stay : NotedWorksStay) {D : Type 0} (m : Meaning D) (notes_stay 
     geometry = core.geometry;
     list = core.list;
     size = core.size;
+    tips = core.tips;
     next = core.next;
     drawn = core.drawn;
     active = record {

@@ -101,6 +101,7 @@ module _ {D P : Type 0} (m : Meaning D) (places : Places P) (known : KnownOfBack
       geometry = core.geometry;
       list = core.list;
       size = core.size;
+      tips = core.tips;
       next = core.next;
       drawn = core.drawn;
       active = core.active;

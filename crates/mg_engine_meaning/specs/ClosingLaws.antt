@@ -30,7 +30,7 @@ use Rattle.mg_model.specs.Machine.{state_of}
 use Rattle.mg_model.specs.declared.opening.Opening.{Opening}
 use Rattle.mg_model.specs.declared.refusal.Refusal.{Refusal}
 use Rattle.mg_overlays.specs.Overlays.{left_by, left_state, nobody}
-use Rattle.mg_pool.specs.Pool.{KeepsContent, cache_of, shown}
+use Rattle.mg_pool.specs.Pool.{HasAtMost, KeepsContent, cache_of, shown}
 use Rattle.mg_pool.specs.declared.fault.PoolFault.{PoolFault}
 use Rattle.mg_pool.specs.declared.pool.Pool.{Pool}
 use Rattle.mg_pool_overlays.specs.Needs.{Asked, Sessions}
@@ -347,5 +347,6 @@ module _ {D : Type 0} (m : Meaning D) (counts : CountsNow m) (holds_one : HoldsO
   closes_engine disk result closes = subst (λ (d : D). ClosesEngine m old d result) (sym closes.is_disk) (record {
     ended = its_end closes.new closes.ended result closes.finishes closes.is;
     same = subst (IsSameDisk m old.store.disk) closes.is_disk closes.same;
+    within = subst (λ (d : D). HasAtMost m d old.store.geometry.limit) closes.is_disk closes.within;
     crash = finish_crash closes.new closes.ended closes.finishes;
   })

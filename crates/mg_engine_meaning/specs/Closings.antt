@@ -18,6 +18,7 @@ use Rattle.mg_model.specs.Machine.{next_number, opening_rows, opening_state, own
 use Rattle.mg_model.specs.declared.opening.Opening.{Opening}
 use Rattle.mg_model.specs.declared.refusal.Refusal.{Refusal}
 use Rattle.mg_model.specs.declared.refusal.Refusal.TheVariants.{DiskWrite, Offline}
+use Rattle.mg_pool.specs.Pool.{HasAtMost}
 use Rattle.mg_survey.specs.Survey.{IsSameDisk}
 use Rattle.mg_value.specs.declared.value.Value.{Value}
 use Rattle.mg_space.specs.FreePages.{HasFree}
@@ -64,6 +65,8 @@ pub record ClosesEngine {D : Type 0} (m : Meaning D) (old : Core D) (new : D) (r
     : Type 0 where
   pub ended : Ends m old new result
   pub same : IsSameDisk m old.store.disk new
+  -- the disk has no more pages than the page limit
+  pub within : HasAtMost m new old.store.geometry.limit
   pub crash : (o : Opening) (h : Entries) → StandsFor m old o h
       → LeavesSince m old.store.disk new (HoldsAcknowledged packed_form old.store.geometry.size o h)
 

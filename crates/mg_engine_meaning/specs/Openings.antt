@@ -136,6 +136,9 @@ pub record RefusesOpening {D : Type 0} (m : Meaning D) (disk new : D) (limit : �
   -- each refusal comes from its cause
   pub cause : RefusesOpen m disk new limit refusal
   pub same : IsSameDisk m disk new
+  -- the disk has no more pages than the page limit
+  pub within : (image now : Image) → m.held disk ≡ Some image → m.held new ≡ Some now
+      → length now ≤ limit_of limit (length image)
   -- no sound image is judged, nor a database that was just made
   pub lawful : (size : ℕ) (image : Image) → m.size new ≡ Some size → Tells m new image
       → IsSoundImage size image ⊎ IsMade size image → IsNoJudgement refusal

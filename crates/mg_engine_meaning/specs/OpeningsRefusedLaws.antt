@@ -1,5 +1,5 @@
 -- Why an opening is refused, and what it leaves of the disk.
-use Rattle.std.proofs.Common.{◌≡◌, ◌⊎◌, inl, inr, ℕ, false, Some, Err, refl, sym, ap, ◌∙◌, subst}
+use Rattle.std.proofs.Common.{◌≡◌, ◌≤◌, ◌⊎◌, inl, inr, arith, ℕ, false, length, Some, Err, refl, sym, ap, ◌∙◌, subst}
 use Rattle.std.proofs.Math.Path.{fun_ext}
 use Rattle.mg_base.specs.Disk.{Meaning}
 use Rattle.mg_base.specs.Image.{Image, page_at}
@@ -26,7 +26,7 @@ use Rattle.mg_space.specs.View.{Tells}
 use Rattle.mg_space.specs.ViewLaws.{CountsNow, content_on}
 use Rattle.mg_space.specs.declared.fault.SpaceFault.{SpaceFault}
 use Rattle.mg_space.specs.declared.fault.SpaceFault.TheVariants as space
-use Rattle.mg_survey.specs.Survey.{IsSameDisk}
+use Rattle.mg_survey.specs.Survey.{IsSameDisk, limit_of}
 use Rattle.mg_new_databases.specs.Readable.{AreReadable, NewAreReadable}
 use Rattle.mg_engine_meaning.specs.OpenedLaws.{content_leaves, new_still, read_leaves, ready_made, ready_same, ready_unwritten}
 use Rattle.mg_engine_meaning.specs.Openings.{IsNoJudgement, IsSoundImage, RefusesOpening}
@@ -45,23 +45,32 @@ pool_free (space.Pool pool_faults.Memory) refusal own is not_ = subst IsNoJudgem
 
 module _ {D : Type 0} (m : Meaning D) (counts : CountsNow m) (counted : AreCounted m) (walks : WalksMeetNoDamage m)
     (new_reads : NewAreReadable) (disk new : D) (limit : ℕ) (refusal : Refusal) where
+  -- where it holds what it held, it has no more pages than it had
+  still_within : (image now : Image) → m.held disk ≡ Some image → m.held new ≡ Some now → KeepsContent m disk new
+      → length now ≤ limit_of limit (length image)
+  still_within image now held then_ keeps =
+      let both : Some now ≡ Some image = sym then_ ∙ (keeps.held ∙ held) in
+      let same : now ≡ image = cc in
+      let as_long : length now ≡ length image = ap (λ (i : Image). length i) same in
+      omega (arith, as_long)
+
   -- ---- it was not prepared
 
-  unprepared_free : (fault : OpenFault) → FailsToPrepare m disk new fault → IsOpenRefusal fault refusal
+  unprepared_free : (fault : OpenFault) → FailsToPrepare m disk new limit fault → IsOpenRefusal fault refusal
       → IsNoJudgement refusal
   unprepared_free _ (unasked count keeps same rose) is = subst IsNoJudgement (sym is) tt
   unprepared_free _ (no_memory keeps same steady) is = subst IsNoJudgement (sym is) tt
   unprepared_free _ (unmade count fails) is = subst IsNoJudgement (sym is) tt
 
   unprepared_kept : (image : Image) → m.held disk ≡ Some image
-      → ((size : ℕ) → m.size new ≡ Some size → IsUnmadeImage size image → ⊥) → (fault : OpenFault) → FailsToPrepare m disk new fault → KeepsContent m disk new
+      → ((size : ℕ) → m.size new ≡ Some size → IsUnmadeImage size image → ⊥) → (fault : OpenFault) → FailsToPrepare m disk new limit fault → KeepsContent m disk new
   unprepared_kept image held not_ _ (unasked count keeps same rose) = keeps
   unprepared_kept image held not_ _ (no_memory keeps same steady) = keeps
   unprepared_kept image held not_ _ (unmade count fails) = absurd (not_ fails.size fails.sized
       (fails.unmade image held))
 
   unprepared_leaves : (size : ℕ) → m.size new ≡ Some size → (image : Image) → Tells m disk image
-      → (fault : OpenFault) → FailsToPrepare m disk new fault → LeavesOnly m disk new (LeavesNew m disk size)
+      → (fault : OpenFault) → FailsToPrepare m disk new limit fault → LeavesOnly m disk new (LeavesNew m disk size)
   unprepared_leaves size sized image tells _ (unasked count keeps same rose) =
       content_leaves m counts (LeavesNew m disk size) disk new tells.told keeps (λ c may. inl may)
   unprepared_leaves size sized image tells _ (no_memory keeps same steady) =
@@ -71,10 +80,19 @@ module _ {D : Type 0} (m : Meaning D) (counts : CountsNow m) (counted : AreCount
       let same : fails.size ≡ size = cc in
       subst (λ (n : ℕ). LeavesOnly m disk new (LeavesNew m disk n)) same (fails.leaves image tells).crash
 
-  unprepared_same : (fault : OpenFault) → FailsToPrepare m disk new fault → IsSameDisk m disk new
+  unprepared_same : (fault : OpenFault) → FailsToPrepare m disk new limit fault → IsSameDisk m disk new
   unprepared_same _ (unasked count keeps same rose) = same
   unprepared_same _ (no_memory keeps same steady) = same
   unprepared_same _ (unmade count fails) = fails.same
+
+  unprepared_within : (image now : Image) → m.held disk ≡ Some image → m.held new ≡ Some now → (fault : OpenFault)
+      → FailsToPrepare m disk new limit fault → length now ≤ limit_of limit (length image)
+  unprepared_within image now held then_ _ (unasked count keeps same rose) = still_within image now held then_ keeps
+  unprepared_within image now held then_ _ (no_memory keeps same steady) = still_within image now held then_ keeps
+  unprepared_within image now held then_ _ (unmade count fails) =
+      let has = fails.within image held in
+      let same : length now ≡ has.0 = counted new now has.0 then_ has.1 in
+      let most = has.2 in omega (arith, same, most)
 
   -- ---- its pages were not read
 
@@ -102,6 +120,17 @@ module _ {D : Type 0} (m : Meaning D) (counts : CountsNow m) (counted : AreCount
         (subst (λ (d : D). LeavesOnly m disk d (LeavesNew m disk its_size)) (sym fails.is_disk)
         (read_leaves m counts disk fails.before.disk its_size fails.prepared.disk_is image fails.after.disk tells
         fails.keeps.disk))
+
+    read_within : (image now : Image) → m.held disk ≡ Some image → m.held new ≡ Some now
+        → length now ≤ limit_of limit (length image)
+    read_within image now held then_ =
+        let has = fails.keeps.pool.within in
+        let same : length now ≡ has.0 =
+        counted fails.after.disk now has.0 (ap m.held (sym fails.is_disk) ∙ then_) has.1 in
+        let limit_is : fails.after.geometry.limit ≡ limit_of limit (length image) =
+        ap (λ (g : Geometry). g.limit) fails.keeps.geometry ∙ fails.prepared.limit_is image held in
+        let most = has.2 in
+        subst (λ (n : ℕ). length now ≤ n) limit_is (omega (arith, same, most))
 
     module _ (size : ℕ) (image : Image) (sized : m.size new ≡ Some size) (tells : Tells m new image)
         (lawful : IsSoundImage size image ⊎ IsMade size image) where
@@ -195,6 +224,11 @@ module _ {D : Type 0} (m : Meaning D) (counts : CountsNow m) (counted : AreCount
   its_kept (unprepared fault is fails) image held not_ = unprepared_kept image held not_ fault fails
   its_kept (unread fault is fails) image held not_ = read_kept fault fails image held not_
 
+  its_within : RefusesOpen m disk new limit refusal → (image now : Image) → m.held disk ≡ Some image
+      → m.held new ≡ Some now → length now ≤ limit_of limit (length image)
+  its_within (unprepared fault is fails) image now held then_ = unprepared_within image now held then_ fault fails
+  its_within (unread fault is fails) image now held then_ = read_within fault fails image now held then_
+
   its_leaves : RefusesOpen m disk new limit refusal → (size : ℕ) → m.size new ≡ Some size → (image : Image)
       → Tells m disk image → LeavesOnly m disk new (LeavesNew m disk size)
   its_leaves (unprepared fault is fails) size sized image tells =
@@ -205,6 +239,7 @@ module _ {D : Type 0} (m : Meaning D) (counts : CountsNow m) (counted : AreCount
   refuses_opening cause = record {
     cause = cause;
     same = its_same cause;
+    within = its_within cause;
     lawful = its_lawful cause;
     lawful_new = its_lawful_new cause;
     unwritten = its_kept cause;

@@ -6,8 +6,10 @@
 //! that were given among them, and where each transaction keeps the tables of the changes that it has to take back
 //! (`KeepsWritten`); while no page write has failed the pages show the history, the cache lasts with
 //! it, the transaction list has the pages of transactions, the catalog begins where the header says, and
-//! each table is plain, without an index or a later column (`ShowsIt`): the engine puts no entries into indexes
-//! yet and writes rows of the first format alone, so an image whose catalog names others is not covered; after one has failed memory alone is right, and what crashes leave (`KeepsIt`). `means` is what
+//! each table is plain, without an index or a later column, and has the same indexes, whoever comes to be committed
+//! (`ShowsIt`): the engine puts no entries into indexes yet and writes rows of the first format alone, so an image whose
+//! catalog names others is not covered; after one has failed memory alone is right, and what crashes leave (`KeepsIt`).
+//! `means` is what
 //! `mg_records` asks of a keeper: the rows to which a walk still comes (`ComesTo`), commits that were asked for
 //! and those of which all is written (`HasWrittenAll`), what crashes leave, and the counts.
 //!

@@ -1,6 +1,6 @@
 //! The writing of a new database.
 
-ghost use Rattle.std.specs.Prelude.{◌≡◌, ◌≤◌, ℕ, length, false, None, OnOk};
+ghost use Rattle.std.specs.Prelude.{◌≡◌, ◌<◌, ◌≤◌, ℕ, length, false, None, OnOk};
 ghost use Rattle.mg_base.specs.Image.{Image};
 ghost use Rattle.mg_image.specs.Form.{packed_coding};
 ghost use Rattle.mg_image.specs.NewDatabase.{IsNewPage};
@@ -32,6 +32,7 @@ use mg_space::Store;
 pub fn format_database<D: Disk>(store: &mut Store<D>) -> Result<(), PoolFault>
     requires pool { IsPool D.meaning store.old }
     requires geometry { IsGeometry store.old.geometry }
+    requires room { 7 ≤ store.old.geometry.limit }
     requires clean { IsClean store.old }
 
     ensures pool { IsPool D.meaning store.new }
@@ -57,6 +58,7 @@ pub fn format_database<D: Disk>(store: &mut Store<D>) -> Result<(), PoolFault>
 fn write_new<D: Disk>(store: &mut Store<D>, n: u32) -> Result<(), PoolFault>
     requires pool { IsPool D.meaning store.old }
     requires geometry { IsGeometry store.old.geometry }
+    requires room { 7 ≤ store.old.geometry.limit }
     requires clean { IsClean store.old }
     requires few { n ≤ 6 }
 
@@ -82,6 +84,7 @@ fn write_new<D: Disk>(store: &mut Store<D>, n: u32) -> Result<(), PoolFault>
 fn write_page<D: Disk>(store: &mut Store<D>, n: u32, bytes: &[u8]) -> Result<(), PoolFault>
     requires pool { IsPool D.meaning store.old }
     requires clean { IsClean store.old }
+    requires below { n < store.old.geometry.limit }
     requires whole { length bytes.now ≡ store.old.geometry.size }
     requires new { IsNewPage packed_coding store.old.geometry.size n bytes.now }
 
@@ -105,6 +108,7 @@ fn write_page<D: Disk>(store: &mut Store<D>, n: u32, bytes: &[u8]) -> Result<(),
 fn put_page<D: Disk>(store: &mut Store<D>, n: u32, bytes: &[u8]) -> Result<(), PoolFault>
     requires pool { IsPool D.meaning store.old }
     requires clean { IsClean store.old }
+    requires below { n < store.old.geometry.limit }
     requires whole { length bytes.now ≡ store.old.geometry.size }
 
     ensures pool { IsPool D.meaning store.new }

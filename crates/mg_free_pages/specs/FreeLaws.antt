@@ -5,7 +5,7 @@ use Rattle.mg_base.specs.declared.geometry.Geometry.{Geometry}
 use Rattle.mg_image.specs.Form.{Pages}
 use Rattle.mg_image.specs.Inventory.{inventory_page, is_used}
 use Rattle.mg_pip.specs.PipPage.{bits, used_in}
-use Rattle.mg_space.specs.Taking.{IsFree, IsFull, IsGeometry, IsLawfulRegion, TakesPage, is_fixed, region_of}
+use Rattle.mg_space.specs.Taking.{IsFree, IsFull, IsGeometry, IsLawfulRegion, TakesPage, is_fixed, region_of, taking_limit}
 use Rattle.mg_space.specs.TakingLaws.{one_region, page_is}
 use Rattle.mg_space.specs.FreePages.{TakingKeepsRegions}
 use Rattle.mg_space.specs.FreePages.{HasFree}
@@ -27,7 +27,7 @@ not_full g pages has full = full (has.page 0) (has.free 0 (omega arith))
 
 -- no inventory page below the limit has changed
 abbrev pub SameBits : Geometry → Pages → Pages → Type 0
-SameBits g old new = (region : ℕ) → inventory_page g.size region < g.limit
+SameBits g old new = (region : ℕ) → inventory_page g.size region < taking_limit g
     → new (inventory_page g.size region) ≡ old (inventory_page g.size region)
 
 still_free : (g : Geometry) (old new : Pages) → SameBits g old new → (n : ℕ) → IsFree g old n → IsFree g new n

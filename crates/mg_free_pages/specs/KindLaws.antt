@@ -10,7 +10,7 @@ use Rattle.mg_image.specs.Inventory.{inventory_page}
 use Rattle.mg_image_overlays.specs.DataPages.{all_passes, byte_blank, kind_of}
 use Rattle.mg_pip.specs.PipPage.{pip_checks}
 use Rattle.mg_pointer.specs.PointerPage.{pointer_checks}
-use Rattle.mg_space.specs.Taking.{IsLawfulRegion}
+use Rattle.mg_space.specs.Taking.{IsLawfulRegion, taking_limit}
 use Rattle.mg_ties.specs.PutTies.{some_data_kind}
 use Rattle.mg_space.specs.FreePages.{HasRegions}
 use Rattle.mg_free_pages.specs.FreePages.{TakesAtMost}
@@ -18,7 +18,7 @@ use Rattle.mg_free_pages.specs.FreeLaws.{SameBits, none_taken}
 
 -- no inventory page below the limit has this number
 abbrev pub IsNoRegion : Geometry → ℕ → Type 0
-IsNoRegion g n = (region : ℕ) → inventory_page g.size region < g.limit → inventory_page g.size region ≢ n
+IsNoRegion g n = (region : ℕ) → inventory_page g.size region < taking_limit g → inventory_page g.size region ≢ n
 
 region_low : (at region : ℕ) (page : List ℕ) → IsLawfulRegion at region page → byte page 0 < 3
 region_low at region page (inl empty) =

@@ -5,10 +5,10 @@ ghost use Rattle.mg_base.specs.Disk.{Writes};
 ghost use Rattle.mg_fuse.specs.Counting.{CountsUpTo};
 
 use mg_base::{Disk, DiskFault, FaultyDisk, MemDisk, PageNo};
-use mg_device::{Device, ForcedWrites};
+use mg_device::{Device, ForcedWrites, GrowingDisk};
 
-/// A disk that counts each page write that it is asked for, or none.
-pub trait CountsWrites: Disk {
+/// A disk that counts each page write that it is asked for, or none, and that loses no page.
+pub trait CountsWrites: GrowingDisk {
     /// Where its count of page writes ends: 0 where it counts none.
     ghost counts_to: { ℕ };
 

@@ -4,6 +4,7 @@ ghost use Rattle.mg_fuse.specs.Fuse.{IsFuse};
 
 use crate::CountsWrites;
 use mg_base::{Disk, DiskFault, PageNo};
+use mg_device::GrowingDisk;
 
 /// Another disk, of which a number of page writes pass.
 #[derive(Drop)]
@@ -83,4 +84,8 @@ impl<D: CountsWrites> Disk for Stopped<D> {
     fn settle(&mut self) -> Result<(), DiskFault> {
         self.inner.settle()
     }
+}
+
+impl<D: CountsWrites> GrowingDisk for Stopped<D> {
+    ghost never_shrinks = { λ d t c image told left held. D.never_shrinks d.inner t c image told left held };
 }

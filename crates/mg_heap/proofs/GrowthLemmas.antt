@@ -125,16 +125,17 @@ has_room b count is = (
 
 -- contents are one page long where a pointer page was linked to a new one
 pub whole_linked : (g h : Geometry) (taken made begun linked : Changed) (owner place at q p n : ℕ)
-    (bytes pointer link : List ℕ) → h ≡ g → AreWhole g.size taken.pages
+    (bytes pointer link : List ℕ) → h ≡ g → AreWhole g taken.pages
+    → n < g.limit → p < g.limit → q < g.limit
     → MakesData h.size taken made owner place n bytes → MakesPointer h.size made begun owner at p n
     → length pointer ≡ g.size → SetsNext pointer link p → PutsPage begun linked q link
-    → AreWhole g.size linked.pages
-whole_linked g h taken made begun linked owner place at q p n bytes pointer link same whole makes begins len
-    links puts = whole_on g.size begun linked q link
-    (whole_begun g.size made begun owner at p n
-    (whole_made g.size taken made owner place n bytes whole
-    (makes_as h g taken made owner place n bytes same makes))
-    (pointer_as h g made begun owner at p n same begins)) (links.len ∙ len) puts
+    → AreWhole g linked.pages
+whole_linked g h taken made begun linked owner place at q p n bytes pointer link same whole n_below p_below
+    q_below makes begins len links puts = whole_on g begun linked q link
+    (whole_begun g made begun owner at p n
+    (whole_made g taken made owner place n bytes whole n_below
+    (makes_as h g taken made owner place n bytes same makes)) p_below
+    (pointer_as h g made begun owner at p n same begins)) (links.len ∙ len) q_below puts
 
 pub no_room : (slice pointer : List ℕ) (answer : Bool) → slice ≡ pointer → answer ≡ false
     → (HasEntryRoom slice → IsTrue answer) → HasEntryRoom pointer → ⊥

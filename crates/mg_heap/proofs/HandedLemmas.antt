@@ -89,9 +89,7 @@ size_later a b same lawful = ap (λ (g : Geometry). is_page_size g.size) same �
 pub taken_small : (g : Geometry) (old new : Changed) (n : ℕ) → IsGeometry g → PutsInventory g old new n
     → n < 2 ^ 31
 taken_small g old new n lawful puts =
-    let most = lawful.limit in
-    let below = puts.below in
-    omega (arith, most, below)
+    let below = puts.below in omega (arith, below)
 
 -- bytes of a page that were read in another form
 pub length_as : (slice read : List ℕ) (a b : Geometry) → slice ≡ read → length read ≡ a.size → b ≡ a

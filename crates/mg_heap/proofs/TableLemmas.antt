@@ -230,11 +230,17 @@ module _ {D L : Type 0} (m : Meaning D) (a b : Pool D L) (kept : KeepsStore m a 
   pub geometry_later : IsGeometry a.geometry → IsGeometry b.geometry
   geometry_later lawful = subst IsGeometry (sym kept.geometry) lawful
 
-  pub whole_later : (pages : List BatchPage) → AreWhole a.geometry.size pages
-      → AreWhole b.geometry.size pages
+  pub whole_later : (pages : List BatchPage) → AreWhole a.geometry pages
+      → AreWhole b.geometry pages
   whole_later pages whole =
-      subst (λ (g : Geometry). AreWhole g.size pages) (sym kept.geometry) whole
+      subst (λ (g : Geometry). AreWhole g pages) (sym kept.geometry) whole
 
-  pub whole_before : (pages : List BatchPage) → AreWhole b.geometry.size pages
-      → AreWhole a.geometry.size pages
-  whole_before pages whole = subst (λ (g : Geometry). AreWhole g.size pages) kept.geometry whole
+  pub whole_before : (pages : List BatchPage) → AreWhole b.geometry pages
+      → AreWhole a.geometry pages
+  whole_before pages whole = subst (λ (g : Geometry). AreWhole g pages) kept.geometry whole
+
+  pub below_later : (n : ℕ) → n < a.geometry.limit → n < b.geometry.limit
+  below_later n below = subst (λ (g : Geometry). n < g.limit) (sym kept.geometry) below
+
+  pub below_before : (n : ℕ) → n < b.geometry.limit → n < a.geometry.limit
+  below_before n below = subst (λ (g : Geometry). n < g.limit) kept.geometry below

@@ -34,7 +34,7 @@ pub fn add<D: Disk>(
 ) -> Result<RecId, SpaceFault>
     requires pool { IsPool D.meaning store.old }
     requires geometry { IsGeometry store.old.geometry }
-    requires whole { AreWhole store.old.geometry.size batch.old.pages }
+    requires whole { AreWhole store.old.geometry batch.old.pages }
     requires owner { owner.0 < GREATEST_LIMIT }
     requires some { owner.0 ≢ 0 }
     requires length { length cell.now + 24 ≤ store.old.geometry.size }
@@ -42,7 +42,7 @@ pub fn add<D: Disk>(
     ensures keeps { KeepsStore D.meaning store.old store.new }
     ensures fault { TellsFault D.meaning store.old store.new (pool_answer result) }
     ensures own { ReadsAlone result }
-    ensures whole { AreWhole store.old.geometry.size batch.new.pages }
+    ensures whole { AreWhole store.old.geometry batch.new.pages }
     ensures adds { (image : Image) → Tells D.meaning store.old.disk image → MatchResult result
         (AddsCell store.old image batch.old batch.new owner.0 cell.now)
         (RefusesAdd D.meaning store.old store.new image batch.old owner.0 cell.now) }
@@ -73,13 +73,13 @@ fn put_in<D: Disk>(
 ) -> Result<RecId, SpaceFault>
     requires pool { IsPool D.meaning store.old }
     requires geometry { IsGeometry store.old.geometry }
-    requires whole { AreWhole store.old.geometry.size batch.old.pages }
+    requires whole { AreWhole store.old.geometry batch.old.pages }
     requires length { length cell.now < 2 ^ 31 }
 
     ensures keeps { KeepsStore D.meaning store.old store.new }
     ensures fault { TellsFault D.meaning store.old store.new (pool_answer result) }
     ensures own { ReadsData result }
-    ensures whole { AreWhole store.old.geometry.size batch.new.pages }
+    ensures whole { AreWhole store.old.geometry batch.new.pages }
     ensures changes { IfOk result
         (λ at. ChangesOne store.old.geometry.size batch.old batch.new at.page.0) }
     ensures puts { (image : Image) → Tells D.meaning store.old.disk image → MatchResult result

@@ -42,7 +42,7 @@ pub fn add_apart<D: Disk>(
 ) -> Result<RecId, SpaceFault>
     requires pool { IsPool D.meaning store.old }
     requires geometry { IsGeometry store.old.geometry }
-    requires whole { AreWhole store.old.geometry.size batch.old.pages }
+    requires whole { AreWhole store.old.geometry batch.old.pages }
     requires owner { owner.0 < GREATEST_LIMIT }
     requires some { owner.0 ≢ 0 }
     requires length { length cell.now + 24 ≤ store.old.geometry.size }
@@ -50,7 +50,7 @@ pub fn add_apart<D: Disk>(
     ensures keeps { KeepsStore D.meaning store.old store.new }
     ensures fault { TellsFault D.meaning store.old store.new (pool_answer result) }
     ensures own { ReadsAlone result }
-    ensures whole { AreWhole store.old.geometry.size batch.new.pages }
+    ensures whole { AreWhole store.old.geometry batch.new.pages }
     ensures adds { (image : Image) → Tells D.meaning store.old.disk image → MatchResult result
         (AddsApart store.old image batch.old batch.new owner.0 place cell.now)
         (RefusesAddApart D.meaning store.old store.new image batch.old owner.0 place cell.now) }
@@ -82,13 +82,13 @@ fn put_apart<D: Disk>(
 ) -> Result<RecId, SpaceFault>
     requires pool { IsPool D.meaning store.old }
     requires geometry { IsGeometry store.old.geometry }
-    requires whole { AreWhole store.old.geometry.size batch.old.pages }
+    requires whole { AreWhole store.old.geometry batch.old.pages }
     requires length { length cell.now < 2 ^ 31 }
 
     ensures keeps { KeepsStore D.meaning store.old store.new }
     ensures fault { TellsFault D.meaning store.old store.new (pool_answer result) }
     ensures own { ReadsData result }
-    ensures whole { AreWhole store.old.geometry.size batch.new.pages }
+    ensures whole { AreWhole store.old.geometry batch.new.pages }
     ensures page { IfOk result (λ at. at.page ≡ page) }
     ensures changes { IfOk result
         (λ at. ChangesOne store.old.geometry.size batch.old batch.new at.page.0) }

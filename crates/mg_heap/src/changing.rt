@@ -35,7 +35,7 @@ pub fn place<D: Disk>(
 ) -> Result<bool, SpaceFault>
     requires pool { IsPool D.meaning store.old }
     requires geometry { IsGeometry store.old.geometry }
-    requires whole { AreWhole store.old.geometry.size batch.old.pages }
+    requires whole { AreWhole store.old.geometry batch.old.pages }
     requires length { length cell.now < 2 ^ 31 }
 
     ensures keeps { KeepsStore D.meaning store.old store.new }
@@ -43,6 +43,7 @@ pub fn place<D: Disk>(
     ensures own { ReadsData result }
     ensures changes { IfOk result
         (ChangesWhere store.old.geometry.size batch.old batch.new at.page.0) }
+    ensures below { OnOk result (at.page.0 < store.old.geometry.limit) }
     ensures same { OnErr result (batch.new ≡ batch.old) }
     ensures places { (image : Image) → Tells D.meaning store.old.disk image → MatchResult result
         (PlacesCell (viewed store.old image batch.old) (viewed store.old image batch.new) at
@@ -68,13 +69,14 @@ pub fn place<D: Disk>(
 pub fn free<D: Disk>(store: &mut Store<D>, batch: &mut Batch, at: RecId) -> Result<(), SpaceFault>
     requires pool { IsPool D.meaning store.old }
     requires geometry { IsGeometry store.old.geometry }
-    requires whole { AreWhole store.old.geometry.size batch.old.pages }
+    requires whole { AreWhole store.old.geometry batch.old.pages }
 
     ensures keeps { KeepsStore D.meaning store.old store.new }
     ensures fault { TellsFault D.meaning store.old store.new (pool_answer result) }
     ensures own { ReadsData result }
     ensures changes { OnOk result
         (ChangesAtMost store.old.geometry.size batch.old batch.new at.page.0) }
+    ensures below { OnOk result (at.page.0 < store.old.geometry.limit) }
     ensures same { OnErr result (batch.new ≡ batch.old) }
     ensures frees { (image : Image) → Tells D.meaning store.old.disk image → MatchResult result
         (λ _. FreesCellAt (viewed store.old image batch.old) (viewed store.old image batch.new) at)
@@ -101,7 +103,7 @@ pub fn least_slot<D: Disk>(
 ) -> Result<u16, SpaceFault>
     requires pool { IsPool D.meaning store.old }
     requires geometry { IsGeometry store.old.geometry }
-    requires whole { AreWhole store.old.geometry.size batch.now.pages }
+    requires whole { AreWhole store.old.geometry batch.now.pages }
 
     ensures keeps { KeepsStore D.meaning store.old store.new }
     ensures fault { TellsFault D.meaning store.old store.new (pool_answer result) }

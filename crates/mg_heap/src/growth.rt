@@ -43,13 +43,13 @@ pub(crate) fn grow<D: Disk>(
 ) -> Result<DataPage, SpaceFault>
     requires pool { IsPool D.meaning store.old }
     requires geometry { IsGeometry store.old.geometry }
-    requires whole { AreWhole store.old.geometry.size batch.old.pages }
+    requires whole { AreWhole store.old.geometry batch.old.pages }
     requires few { at.pointer < 2 ^ 31 }
 
     ensures keeps { KeepsStore D.meaning store.old store.new }
     ensures fault { TellsFault D.meaning store.old store.new (pool_answer result) }
     ensures own { ReadsAlone result }
-    ensures whole { AreWhole store.old.geometry.size batch.new.pages }
+    ensures whole { AreWhole store.old.geometry batch.new.pages }
     ensures grows { (image : Image) → Tells D.meaning store.old.disk image → MatchResult result
         (λ it. GrowsTable store.old.geometry store.old image batch.old batch.new owner.0 at.data
         at.pointer q.0 (viewed store.old image batch.old q.0) it.page.0 it.bytes.items)
@@ -94,7 +94,8 @@ fn list_in_last<D: Disk>(
 ) -> Result<DataPage, SpaceFault>
     requires pool { IsPool D.meaning store.old }
     requires geometry { IsGeometry store.old.geometry }
-    requires whole { AreWhole store.old.geometry.size batch.old.pages }
+    requires whole { AreWhole store.old.geometry batch.old.pages }
+    requires below { q.0 < store.old.geometry.limit }
     requires lawful { IsPointerPage pointer.old }
     requires len { length pointer.old ≡ store.old.geometry.size }
     requires room { HasEntryRoom pointer.old }
@@ -102,7 +103,7 @@ fn list_in_last<D: Disk>(
     ensures keeps { KeepsStore D.meaning store.old store.new }
     ensures fault { TellsFault D.meaning store.old store.new (pool_answer result) }
     ensures own { ReadsAlone result }
-    ensures whole { AreWhole store.old.geometry.size batch.new.pages }
+    ensures whole { AreWhole store.old.geometry batch.new.pages }
     ensures lists { (image : Image) → Tells D.meaning store.old.disk image → MatchResult result
         (λ it. ListsInLast store.old.geometry store.old image batch.old batch.new owner.0 place q.0
         it.page.0 pointer.old it.bytes.items)
@@ -136,14 +137,15 @@ fn list_in_new<D: Disk>(
 ) -> Result<DataPage, SpaceFault>
     requires pool { IsPool D.meaning store.old }
     requires geometry { IsGeometry store.old.geometry }
-    requires whole { AreWhole store.old.geometry.size batch.old.pages }
+    requires whole { AreWhole store.old.geometry batch.old.pages }
+    requires below { q.0 < store.old.geometry.limit }
     requires lawful { IsPointerPage pointer.old }
     requires len { length pointer.old ≡ store.old.geometry.size }
 
     ensures keeps { KeepsStore D.meaning store.old store.new }
     ensures fault { TellsFault D.meaning store.old store.new (pool_answer result) }
     ensures own { ReadsAlone result }
-    ensures whole { AreWhole store.old.geometry.size batch.new.pages }
+    ensures whole { AreWhole store.old.geometry batch.new.pages }
     ensures lists { (image : Image) → Tells D.meaning store.old.disk image → MatchResult result
         (λ it. (p : ℕ) × ListsInNew store.old.geometry store.old image batch.old batch.new owner.0
         at.data at.pointer q.0 p it.page.0 pointer.old it.bytes.items)
@@ -180,13 +182,15 @@ struct TwoPages {
 fn take_two<D: Disk>(store: &mut Store<D>, batch: &mut Batch) -> Result<TwoPages, SpaceFault>
     requires pool { IsPool D.meaning store.old }
     requires geometry { IsGeometry store.old.geometry }
-    requires whole { AreWhole store.old.geometry.size batch.old.pages }
+    requires whole { AreWhole store.old.geometry batch.old.pages }
 
     ensures keeps { KeepsStore D.meaning store.old store.new }
     ensures fault { TellsFault D.meaning store.old store.new (pool_answer result) }
     ensures own { ReadsAlone result }
-    ensures whole { AreWhole store.old.geometry.size batch.new.pages }
+    ensures whole { AreWhole store.old.geometry batch.new.pages }
     ensures small { IfOk result (λ two. (two.first.0 < 2 ^ 31) × (two.second.0 < 2 ^ 31)) }
+    ensures below { IfOk result (λ two. (two.first.0 < store.old.geometry.limit)
+        × (two.second.0 < store.old.geometry.limit)) }
     ensures takes { (image : Image) → Tells D.meaning store.old.disk image → MatchResult result
         (λ two. TakesTwo store.old.geometry store.old image batch.old batch.new two.first.0
         two.second.0)

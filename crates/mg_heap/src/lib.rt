@@ -11,7 +11,7 @@
 //! orders of page writes it adds: those of `FILE-FORMAT`, "a pointer to a page".
 //!
 //! Invariant: none of its own; it keeps that of the cache (`IsPool`), and each content of a batch
-//! is one page long (`AreWhole`). After a fault of a call that puts one page the batch is as
+//! is one page long, of a page below the page limit (`AreWhole`). After a fault of a call that puts one page the batch is as
 //! before; after one of a growing table it may have a part of the growth, and is dropped.
 //!
 //! A record number tells its page alone. So `cell`, `place` and `free` test that page as the data

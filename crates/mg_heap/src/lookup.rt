@@ -44,7 +44,7 @@ pub(crate) fn data_page_at<D: Disk>(
 ) -> Result<Option<PageNo>, SpaceFault>
     requires pool { IsPool D.meaning store.old }
     requires geometry { IsGeometry store.old.geometry }
-    requires whole { AreWhole store.old.geometry.size batch.now.pages }
+    requires whole { AreWhole store.old.geometry batch.now.pages }
     requires owner { owner.0 < GREATEST_LIMIT }
 
     ensures keeps { KeepsStore D.meaning store.old store.new }
@@ -89,7 +89,7 @@ fn look_up<D: Disk>(
 ) -> Result<Look, SpaceFault>
     requires pool { IsPool D.meaning store.old }
     requires geometry { IsGeometry store.old.geometry }
-    requires whole { AreWhole store.old.geometry.size batch.now.pages }
+    requires whole { AreWhole store.old.geometry batch.now.pages }
     requires few { length pointers.old.items < 2 ^ 32 }
 
     ensures keeps { KeepsStore D.meaning store.old store.new }

@@ -1,6 +1,6 @@
 //! A data page is read, and a cell of it.
 
-ghost use Rattle.std.specs.Prelude.{◌≡◌, ◌≤◌, ◌↔◌, IfErr, IfOk, IfSome, IsOk, MatchResult, OnOk, length};
+ghost use Rattle.std.specs.Prelude.{◌≡◌, ◌<◌, ◌≤◌, ◌↔◌, IfErr, IfOk, IfSome, IsOk, MatchResult, OnOk, length};
 ghost use Rattle.std.specs.Option.{option_copied};
 ghost use Rattle.mg_base.specs.Image.{Image};
 ghost use Rattle.mg_pool.specs.Fault.{TellsFault};
@@ -34,7 +34,7 @@ pub fn cell<D: Disk>(
 ) -> Result<Option<Bytes>, SpaceFault>
     requires pool { IsPool D.meaning store.old }
     requires geometry { IsGeometry store.old.geometry }
-    requires whole { AreWhole store.old.geometry.size batch.now.pages }
+    requires whole { AreWhole store.old.geometry batch.now.pages }
 
     ensures keeps { KeepsStore D.meaning store.old store.new }
     ensures fault { TellsFault D.meaning store.old store.new (pool_answer result) }
@@ -63,7 +63,7 @@ pub fn hold_data<D: Disk>(
 ) -> Result<(), SpaceFault>
     requires pool { IsPool D.meaning store.old }
     requires geometry { IsGeometry store.old.geometry }
-    requires whole { AreWhole store.old.geometry.size batch.now.pages }
+    requires whole { AreWhole store.old.geometry batch.now.pages }
 
     ensures keeps { KeepsStore D.meaning store.old store.new }
     ensures fault { TellsFault D.meaning store.old store.new (pool_answer result) }
@@ -93,12 +93,13 @@ pub(crate) fn data_page<D: Disk>(
 ) -> Result<Bytes, SpaceFault>
     requires pool { IsPool D.meaning store.old }
     requires geometry { IsGeometry store.old.geometry }
-    requires whole { AreWhole store.old.geometry.size batch.now.pages }
+    requires whole { AreWhole store.old.geometry batch.now.pages }
 
     ensures keeps { KeepsStore D.meaning store.old store.new }
     ensures fault { TellsFault D.meaning store.old store.new (pool_answer result) }
     ensures own { ReadsData result }
     ensures len { IfOk result (λ b. length b ≡ store.old.geometry.size) }
+    ensures below { OnOk result (page.0 < store.old.geometry.limit) }
     ensures data_page { IfOk result (IsSomeData page) }
     ensures seen { (image : Image) → Tells D.meaning store.old.disk image → MatchResult result
         (λ b. b ≡ viewed store.old image batch.now page.0)

@@ -41,14 +41,14 @@ pub fn page_with_room<D: Disk>(
 ) -> Result<PageNo, SpaceFault>
     requires pool { IsPool D.meaning store.old }
     requires geometry { IsGeometry store.old.geometry }
-    requires whole { AreWhole store.old.geometry.size batch.old.pages }
+    requires whole { AreWhole store.old.geometry batch.old.pages }
     requires owner { owner.0 < GREATEST_LIMIT }
     requires some { owner.0 ≢ 0 }
 
     ensures keeps { KeepsStore D.meaning store.old store.new }
     ensures fault { TellsFault D.meaning store.old store.new (pool_answer result) }
     ensures own { ReadsAlone result }
-    ensures whole { AreWhole store.old.geometry.size batch.new.pages }
+    ensures whole { AreWhole store.old.geometry batch.new.pages }
     ensures gives { (image : Image) → Tells D.meaning store.old.disk image → MatchResult result
         (GivesRoom store.old image batch.old batch.new owner.0 need)
         (RefusesRoom D.meaning store.old store.new image batch.old owner.0) }
@@ -68,7 +68,7 @@ fn room_in<D: Disk>(
 ) -> Result<DataPage, SpaceFault>
     requires pool { IsPool D.meaning store.old }
     requires geometry { IsGeometry store.old.geometry }
-    requires whole { AreWhole store.old.geometry.size batch.old.pages }
+    requires whole { AreWhole store.old.geometry batch.old.pages }
     requires online { store.old.offline ≡ None }
     requires few { length table.now.data_pages.items < 2 ^ 32 }
     requires some { 0 < length table.now.pointers.items }
@@ -77,7 +77,7 @@ fn room_in<D: Disk>(
     ensures keeps { KeepsStore D.meaning store.old store.new }
     ensures fault { TellsFault D.meaning store.old store.new (pool_answer result) }
     ensures own { ReadsAlone result }
-    ensures whole { AreWhole store.old.geometry.size batch.new.pages }
+    ensures whole { AreWhole store.old.geometry batch.new.pages }
     ensures gives { (image : Image) → Tells D.meaning store.old.disk image → MatchResult result
         (FindsOrGrows store.old image batch.old batch.new owner.0 table.now.pointers.items
         table.now.data_pages.items need)
@@ -106,7 +106,7 @@ fn page_with<D: Disk>(
 ) -> Result<Option<DataPage>, SpaceFault>
     requires pool { IsPool D.meaning store.old }
     requires geometry { IsGeometry store.old.geometry }
-    requires whole { AreWhole store.old.geometry.size batch.now.pages }
+    requires whole { AreWhole store.old.geometry batch.now.pages }
     requires online { store.old.offline ≡ None }
     requires few { length data_pages.now < 2 ^ 32 }
 
@@ -148,7 +148,7 @@ fn page_at<D: Disk>(
 ) -> Result<Option<DataPage>, SpaceFault>
     requires pool { IsPool D.meaning store.old }
     requires geometry { IsGeometry store.old.geometry }
-    requires whole { AreWhole store.old.geometry.size batch.now.pages }
+    requires whole { AreWhole store.old.geometry batch.now.pages }
     requires inside { place < length data_pages.now }
     requires few { length data_pages.now < 2 ^ 32 }
 

@@ -41,7 +41,7 @@ pub fn table_pages<D: Disk>(
 ) -> Result<TablePages, SpaceFault>
     requires pool { IsPool D.meaning store.old }
     requires geometry { IsGeometry store.old.geometry }
-    requires whole { AreWhole store.old.geometry.size batch.now.pages }
+    requires whole { AreWhole store.old.geometry batch.now.pages }
     requires owner { owner.0 < GREATEST_LIMIT }
 
     ensures keeps { KeepsStore D.meaning store.old store.new }
@@ -86,7 +86,7 @@ pub(crate) fn follow<D: Disk>(
 ) -> Result<PageNo, SpaceFault>
     requires pool { IsPool D.meaning store.old }
     requires geometry { IsGeometry store.old.geometry }
-    requires whole { AreWhole store.old.geometry.size batch.now.pages }
+    requires whole { AreWhole store.old.geometry batch.now.pages }
     requires few { length pointers.old.items < 2 ^ 32 }
 
     ensures keeps { KeepsStore D.meaning store.old store.new }
@@ -123,12 +123,13 @@ pub(crate) fn pointer_page<D: Disk>(
 ) -> Result<Bytes, SpaceFault>
     requires pool { IsPool D.meaning store.old }
     requires geometry { IsGeometry store.old.geometry }
-    requires whole { AreWhole store.old.geometry.size batch.now.pages }
+    requires whole { AreWhole store.old.geometry batch.now.pages }
 
     ensures keeps { KeepsStore D.meaning store.old store.new }
     ensures fault { TellsFault D.meaning store.old store.new (pool_answer result) }
     ensures own { ReadsData result }
     ensures len { IfOk result (λ b. length b ≡ store.old.geometry.size) }
+    ensures below { OnOk result (n.0 < store.old.geometry.limit) }
     ensures tested { IfOk result (λ b. PassesAll (pointer_checks b n.0 owner.0 at)) }
     ensures lawful { IfOk result IsPointerPage }
     ensures seen { (image : Image) → Tells D.meaning store.old.disk image → MatchResult result

@@ -68,7 +68,7 @@ fn next_in<D: Disk>(
 ) -> Result<Option<RecId>, SpaceFault>
     requires pool { IsPool D.meaning store.old }
     requires geometry { IsGeometry store.old.geometry }
-    requires whole { AreWhole store.old.geometry.size batch.now.pages }
+    requires whole { AreWhole store.old.geometry batch.now.pages }
     requires owner { owner.0 < GREATEST_LIMIT }
 
     ensures keeps { KeepsStore D.meaning store.old store.new }
@@ -94,7 +94,7 @@ fn next_after<D: Disk>(
 ) -> Result<Option<RecId>, SpaceFault>
     requires pool { IsPool D.meaning store.old }
     requires geometry { IsGeometry store.old.geometry }
-    requires whole { AreWhole store.old.geometry.size batch.now.pages }
+    requires whole { AreWhole store.old.geometry batch.now.pages }
     requires owner { owner.0 < GREATEST_LIMIT }
 
     ensures keeps { KeepsStore D.meaning store.old store.new }
@@ -132,7 +132,7 @@ fn first_behind<D: Disk>(
 ) -> Result<Option<RecId>, SpaceFault>
     requires pool { IsPool D.meaning store.old }
     requires geometry { IsGeometry store.old.geometry }
-    requires whole { AreWhole store.old.geometry.size batch.now.pages }
+    requires whole { AreWhole store.old.geometry batch.now.pages }
     requires owner { owner.0 < GREATEST_LIMIT }
 
     ensures keeps { KeepsStore D.meaning store.old store.new }
@@ -162,7 +162,7 @@ fn first_from<D: Disk>(
 ) -> Result<Option<RecId>, SpaceFault>
     requires pool { IsPool D.meaning store.old }
     requires geometry { IsGeometry store.old.geometry }
-    requires whole { AreWhole store.old.geometry.size batch.now.pages }
+    requires whole { AreWhole store.old.geometry batch.now.pages }
     requires owner { owner.0 < GREATEST_LIMIT }
 
     ensures keeps { KeepsStore D.meaning store.old store.new }
@@ -201,7 +201,7 @@ pub fn table_data_page<D: Disk>(
 ) -> Result<Bytes, SpaceFault>
     requires pool { IsPool D.meaning store.old }
     requires geometry { IsGeometry store.old.geometry }
-    requires whole { AreWhole store.old.geometry.size batch.now.pages }
+    requires whole { AreWhole store.old.geometry batch.now.pages }
 
     ensures keeps { KeepsStore D.meaning store.old store.new }
     ensures fault { TellsFault D.meaning store.old store.new (pool_answer result) }

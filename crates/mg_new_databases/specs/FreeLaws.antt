@@ -1,5 +1,5 @@
 -- Which pages of a new database are free.
-use Rattle.std.proofs.Common.{◌≡◌, ◌∙◌, ◌⊎◌, inl, inr, ◌<◌, ◌≤◌, ◌+◌, ◌*◌, ◌/◌, ◌%◌, ℕ, zero, suc, true, false, List, length, refl, sym, ap, subst, arith, lit<}
+use Rattle.std.proofs.Common.{◌≡◌, ◌∙◌, ◌⊎◌, inl, inr, ◌<◌, ◌≤◌, ◌+◌, ◌*◌, ◌/◌, ◌%◌, min, ℕ, zero, suc, true, false, List, length, refl, sym, ap, subst, arith, lit<}
 use Rattle.std.proofs.Math.Nat.{div-eq_of_lt, mod-eq_of_lt, zero-mul}
 use Rattle.std.proofs.Math.ListN.{set}
 use Rattle.std.proofs.lemmas.Bool.{cases_lt}
@@ -8,6 +8,7 @@ use Rattle.mg_base.specs.CheckLaws.{new_page_zero}
 use Rattle.mg_base.specs.Fields.{byte, length-new_page}
 use Rattle.mg_base.specs.Geometry.{is_page_size}
 use Rattle.mg_base.specs.Image.{Image, page_at}
+use Rattle.mg_base.specs.declared.geometry.TheConstants.{GREATEST_LIMIT}
 use Rattle.mg_format.specs.Format.{IsMade}
 use Rattle.mg_image.specs.Inventory.{inventory_page, is_used}
 use Rattle.mg_pip.specs.PipPage.{bits, new_pip_page, used_in}
@@ -15,7 +16,7 @@ use Rattle.mg_pip.specs.PipPageLaws.{zero_unused}
 use Rattle.mg_pip.specs.declared.page.TheConstants.{PIP_KIND}
 use Rattle.mg_space.specs.FreePages.{HasFree}
 use Rattle.mg_space.specs.Taking.{IsFree}
-use Rattle.mg_space.specs.TakingLaws.{no_inventory_page, page_sizes}
+use Rattle.mg_space.specs.TakingLaws.{bits_few, no_inventory_page, page_sizes}
 
 -- ---- pages that are not used
 
@@ -67,14 +68,17 @@ module _ (size limit : ℕ) (image : Image) (lawful : is_page_size size ≡ true
   is_free : (n : ℕ) → 7 ≤ n → n < limit → n < bits size
       → IsFree (record { size = size; limit = limit }) (page_at size image) n
   is_free n from below inside = record {
-    below = below;
-    region = subst (λ (k : ℕ). k < limit) (sym its_page) (omega (arith, from, below));
+    below = taken_below;
+    region = subst (λ (k : ℕ). k < min limit GREATEST_LIMIT) (sym its_page) (omega (arith, from, taken_below));
     no_header = λ header. omega (arith, from, header);
     no_inventory = no_inventory_page size n lawful
         (λ one. let own : n ≡ 1 = sym its_bit ∙ one in omega (arith, from, own));
     unused = new_unused size (page_sizes size lawful).0 image made n from inside;
   }
     where
+      taken_below : n < min limit GREATEST_LIMIT
+      taken_below = let few = bits_few size lawful in omega (arith, below, inside, few)
+
       its_region : n / bits size ≡ 0
       its_region = div-eq_of_lt inside
 

@@ -150,7 +150,7 @@ module _ {D : Type 0} (m : Meaning D) (laws : Reads m)
           midway = take_step m laws old it.image it.tells it.geometry state catalog (first 0) no_batch begun page takes
               it.midway;
         }))
-        (rows_may page (let below = takes.takes.free.below in let most = it.geometry.limit in omega (arith, below, most)))
+        (rows_may page (let below = takes.takes.free.below in omega (arith, below)))
         damage refused
 
     -- ---- its first page is taken

@@ -179,7 +179,7 @@ module _ {D : Type 0} (m : Meaning D) (laws : Reads m) (store : Pool D FireLinks
         ∙ kind_of (new_pointer_page size n n 0) n 4 n 0 _ passes
       where
         small : n < 2 ^ 32
-        small = let below = takes.takes.free.below in let most = geometry.limit in omega (arith, below, most)
+        small = let below = takes.takes.free.below in omega (arith, below)
 
         passes : PassesAll (pointer_checks (new_pointer_page size n n 0) n n 0)
         passes = new_page_passes size n n 0 (let large = (page_sizes size geometry.size).0 in omega (arith, large)) small

@@ -3,7 +3,7 @@
 ghost use Rattle.std.specs.Prelude.{◌≡◌, ◌≤◌, false, IfOk, Some, length};
 ghost use Rattle.mg_base.specs.MemDisk.{mem_meaning};
 ghost use Rattle.mg_format.specs.Format.{IsClean};
-ghost use Rattle.mg_pool.specs.Pool.{IsPool};
+ghost use Rattle.mg_pool.specs.Pool.{HasAtMost, IsPool};
 ghost use Rattle.mg_space.specs.Taking.{IsGeometry};
 
 use crate::reading::{Deed, Verb};
@@ -74,6 +74,7 @@ pub fn new_store(alloc: Global, deeds: &[Deed]) -> Result<Store<MemDisk>, SpaceF
     ensures pool { IfOk result (λ store. IsPool mem_meaning store) }
     ensures geometry { IfOk result (λ store. IsGeometry store.geometry) }
     ensures size { IfOk result (λ store. store.geometry.size ≡ 1024) }
+    ensures room { IfOk result (λ store. 7 ≤ store.geometry.limit) }
 {
     let mut store = blank_store(alloc, room_for(deeds))?;
     format_database(&mut store)?;
@@ -82,7 +83,8 @@ pub fn new_store(alloc: Global, deeds: &[Deed]) -> Result<Store<MemDisk>, SpaceF
 
 // How many pages a disk has room for on which the deeds are done.
 fn room_for(deeds: &[Deed]) -> u32
-    ensures { result ≤ 8100 }
+    ensures most { result ≤ 8100 }
+    ensures least { 7 ≤ result }
 {
     for deed in deeds {
         if deed.verb == Verb::Used {
@@ -103,9 +105,13 @@ fn blank_store(alloc: Global, room: u32) -> Result<Store<MemDisk>, Memory>
     ensures pool { IfOk result (λ store. IsPool mem_meaning store) }
     ensures geometry { IfOk result (λ store. IsGeometry store.geometry) }
     ensures size { IfOk result (λ store. store.geometry.size ≡ 1024) }
+    ensures limit { IfOk result (λ store. store.geometry.limit ≡ room) }
     ensures clean { IfOk result (λ store. IsClean store) }
 {
-    let disk = MemDisk::new(alloc, 1024, room, RECORD)?;
+    let mut disk = MemDisk::new(alloc, 1024, room, RECORD)?;
+    let Ok(0) = disk.pages() else {
+        return Err(Memory);
+    };
     let geometry = Geometry {
         size: 1024,
         limit: room,
@@ -133,12 +139,19 @@ pub fn store_on(alloc: Global, disk: &MemDisk) -> Result<Store<MemDisk>, Memory>
     let Ok(1024) = copy.page_size() else {
         return Err(Memory);
     };
+    let Ok(pages) = copy.pages() else {
+        return Err(Memory);
+    };
+    if pages > MOST_ROOM {
+        return Err(Memory);
+    }
     store_over(alloc, copy)
 }
 
 // A store over a disk.
 fn store_over(alloc: Global, disk: MemDisk) -> Result<Store<MemDisk>, Memory>
-    requires { mem_meaning.size disk ≡ Some 1024 }
+    requires size { mem_meaning.size disk ≡ Some 1024 }
+    requires within { HasAtMost mem_meaning disk 8100 }
     ensures pool { IfOk result (λ store. IsPool mem_meaning store) }
     ensures geometry { IfOk result (λ store. IsGeometry store.geometry) }
     ensures size { IfOk result (λ store. store.geometry.size ≡ 1024) }
@@ -259,6 +272,9 @@ fn use_pages(store: &mut Store<MemDisk>, count: u32) -> Result<(), SpaceFault>
     for bit in 0..count.min(REGION) {
         set_used(&mut page, bit, true);
     }
+    if store.geometry().limit <= 1 {
+        return Err(SpaceFault::Pool(PoolFault::Memory));
+    }
     store.change_one(PageNo(1), &page, None)?;
     Ok(())
 }
@@ -274,6 +290,9 @@ fn put_next(store: &mut Store<MemDisk>, next: u32) -> Result<(), SpaceFault>
     let batch = Batch::new(store.alloc());
     let mut page = page_of(store, &batch, PageNo(0))?.into_vec();
     put_u32(&mut page, NEXT_AT, next);
+    if store.geometry().limit == 0 {
+        return Err(SpaceFault::Pool(PoolFault::Memory));
+    }
     store.change_one(PageNo(0), &page, None)?;
     Ok(())
 }

@@ -10,10 +10,10 @@ use Rattle.mg_pool.specs.declared.pool.Pool.{Pool}
 use Rattle.mg_pool.specs.Clean.{CleanPages, IsFull, KeepsClean, PutsClean, kept_in}
 use Rattle.mg_pool.specs.Dirty.{DirtyPages, content_of, is_dirty}
 use Rattle.mg_pool.specs.Fault.{OnlyRefuses, StaysOnline, TellsFault}
-use Rattle.mg_pool.specs.Pool.{IsCounted, IsOnDisk, IsPool, KeepsContent, resident}
+use Rattle.mg_pool.specs.Pool.{HasAtMost, IsCounted, IsOnDisk, IsPool, KeepsContent, resident}
 use Rattle.mg_pool.specs.Reading.{Fetches, Stay}
 use Rattle.mg_pool.specs.ReadingLaws.{stay_still}
-use Rattle.mg_pool.proofs.PoolLemmas.{counted_calm, on_disk_calm, size_stays, some_copied}
+use Rattle.mg_pool.proofs.PoolLemmas.{counted_calm, on_disk_calm, size_stays, some_copied, within_calm}
 use Rattle.mg_pool.proofs.RunLemmas.{CountsNow}
 
 -- the disk's content is as it was, after one call of it or several
@@ -22,6 +22,7 @@ pub record Quiet {D : Type 0} (m : Meaning D) (old new : D) : Type 0 where
   pub content : KeepsContent m old new
   pub on_disk : (p : ℕ) → IsOnDisk m old p → IsOnDisk m new p
   pub counted : IsCounted m old → IsCounted m new
+  pub within : (most : ℕ) → HasAtMost m old most → HasAtMost m new most
 
 pub quiet_none : {D : Type 0} (m : Meaning D) (disk : D) → Quiet m disk disk
 quiet_none m disk = record {
@@ -41,6 +42,7 @@ quiet_none m disk = record {
   };
   on_disk = λ p there. there;
   counted = λ there. there;
+  within = λ most has. has;
 }
 
 pub quiet_call : {D T E : Type 0} (m : Meaning D) (old new : D) (result : Result T E) → Calm m old new result → Quiet m old new
@@ -57,6 +59,7 @@ quiet_call m old new result calm = record {
   };
   on_disk = λ p there. on_disk_calm m old new result calm p there;
   counted = λ there. counted_calm m old new result calm there;
+  within = λ most has. within_calm m old new result calm most has;
 }
 
 elapses_then : {D : Type 0} (m : Meaning D) → CountsNow m → (a b c : D) → m.tells a ≡ true → KeepsContent m a b → KeepsContent m b c → Elapses m a c
@@ -92,6 +95,7 @@ quiet_then m counts a b c first second =
       };
       on_disk = λ p there. second.on_disk p (first.on_disk p there);
       counted = λ there. second.counted (first.counted there);
+      within = λ most has. second.within most (first.within most has);
     }
 
 -- What was read.
@@ -139,6 +143,9 @@ pool_quiet m old disk faults pool quiet = record {
   on_disk = λ online page bytes there. quiet.on_disk page (pool.on_disk online page bytes there);
   counted = λ online told. quiet.counted (pool.counted online told);
   clean = λ told image held. pool.clean (sym quiet.content.tells ∙ told) image (sym quiet.content.held ∙ held);
+  below = pool.below;
+  kept_below = pool.kept_below;
+  within = quiet.within old.geometry.limit pool.within;
 }
 
 pub leaves_pages : {D L : Type 0} (m : Meaning D) (old : Pool D L) (disk : D) (faults : ℕ) (new : Pool D L) (page : ℕ) → new ≡ record old { disk = disk; faults = faults } → IsPool m old → Quiet m old.disk disk
@@ -195,6 +202,9 @@ leaves_cleaned {D} {L} m old middle new page is keeps left =
         on_disk = λ online p bytes there. pool.on_disk online p bytes (sym (same p) ∙ there);
         counted = pool.counted;
         clean = λ told image held p bytes there. pool.clean told image held p bytes (sym (same p) ∙ there);
+        below = pool.below;
+        kept_below = λ p bytes there. pool.kept_below p bytes (sym (same p) ∙ there);
+        within = pool.within;
       };
       geometry = left.geometry;
       dirty = left.dirty;

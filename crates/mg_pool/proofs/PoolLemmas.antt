@@ -1,5 +1,5 @@
 -- What the writing of one page leaves.
-use Rattle.std.proofs.Common.{◌≡◌, ◌≢◌, ◌≤◌, ℕ, ◌+◌, Bool, true, false, not, ◌||◌, ◌&&◌, ◌==◌, ◌⊎◌, inl, inr, List, length, Option, Some, None, is_some, arith, sym, ◌∙◌, ap, refl, cond, subst, unwrap_or}
+use Rattle.std.proofs.Common.{◌≡◌, ◌≢◌, ◌<◌, ◌≤◌, ℕ, ◌+◌, Bool, true, false, not, ◌||◌, ◌&&◌, ◌==◌, ◌⊎◌, inl, inr, List, length, Option, Some, None, is_some, arith, sym, ◌∙◌, ap, refl, cond, subst, unwrap_or}
 use Rattle.std.proofs.lemmas.Bool.{cases_eq, cases_lt, both_ways, eqb-true, eq-eqb, ne_eqb, or_cases, or_left, or_right, or_parts, and_from, false_from_ne_true, not_from_false}
 use Rattle.mg_base.specs.Image.{Image, page_at, written, length-written, page_at-written_same, page_at-written_other}
 use Rattle.mg_base.specs.Disk.{Meaning, MayLeave, Elapses, Writes, Calm, Keeps, Stays}
@@ -11,7 +11,7 @@ use Rattle.mg_careful.specs.Precedence.{Precedes, directly, through}
 use Rattle.mg_careful.specs.Graph.{PageGraph, is_entered, is_ordered, entered_count, ClearsPage}
 use Rattle.mg_careful.specs.CarefulWrite.{PageSet, IsClosed, overlay}
 use Rattle.mg_pool.specs.Dirty.{DirtyPages, content_of, is_dirty, TakesOut}
-use Rattle.mg_pool.specs.Pool.{shown, cache_of, IsTied, IsOverlay, IsClosedOverlay, with_page, WritesOut, WritesSet, LeavesClosed, IsOnDisk, IsCounted}
+use Rattle.mg_pool.specs.Pool.{shown, cache_of, IsTied, IsOverlay, IsClosedOverlay, with_page, WritesOut, WritesSet, HasAtMost, LeavesClosed, IsOnDisk, IsCounted}
 
 -- the image with one dirty page written is the overlay of that page alone
 pub overlay_one : (dirty : DirtyPages) (graph : PageGraph) (image : Image) (page : ℕ) (bytes : List ℕ) → content_of dirty page ≡ Some bytes → IsOverlay dirty graph image (λ p. p == page) (written dirty.size image page bytes)
@@ -389,6 +389,26 @@ counted_after m old new page bytes x writes there = (max there.0 (page + 1), wri
 
 pub on_disk_written : {D T E : Type 0} (m : Meaning D) (old new : D) (page : ℕ) (bytes : List ℕ) (x : T) → Writes {T = T} {E = E} m old new page bytes (Ok x) → IsCounted m old → IsOnDisk m new page
 on_disk_written m old new page bytes x writes there = (max there.0 (page + 1), writes.count there.0 there.1, omega arith)
+
+-- A disk that has no more pages than it may has no more after a call that changes nothing of the
+-- content, nor after the write of a page that it may have.
+pub within_calm : {D T E : Type 0} (m : Meaning D) (old new : D) (result : Result T E) → Calm m old new result → (most : ℕ) → HasAtMost m old most → HasAtMost m new most
+within_calm m old new result calm most has = (has.0, stays_some (m.count old) (m.count new) has.0 has.1 calm.count, has.2)
+
+pub within_after : {D T E : Type 0} (m : Meaning D) (old new : D) (page : ℕ) (bytes : List ℕ) (x : T) → Writes {T = T} {E = E} m old new page bytes (Ok x) → (most : ℕ) → page < most → HasAtMost m old most → HasAtMost m new most
+within_after m old new page bytes x writes most below has = (max has.0 (page + 1), writes.count has.0 has.1, omega (arith, has.2, below))
+
+pub within_failed : {D T E : Type 0} (m : Meaning D) (old new : D) (page : ℕ) (bytes : List ℕ) (x : E) → Writes {T = T} {E = E} m old new page bytes (Err x) → (most : ℕ) → page < most → HasAtMost m old most → HasAtMost m new most
+within_failed m old new page bytes x writes most below has = elim (writes.failed_count has.0 has.1) [
+  | inl same ↦ (has.0, same, has.2)
+  | inr more ↦ (max has.0 (page + 1), more, omega (arith, has.2, below))
+]
+
+-- a page that the disk has is one of these
+pub below_within : {D : Type 0} (m : Meaning D) (disk : D) (count page most : ℕ) → m.count disk ≡ Some count → page < count → HasAtMost m disk most → page < most
+below_within m disk count page most told below has =
+    let both : Some count ≡ Some has.0 = sym told ∙ has.1 in
+    let same : count ≡ has.0 = cc in omega (arith, same, below, has.2)
 
 -- and the disk has it as it was written
 pub stored_now : {D T E : Type 0} (m : Meaning D) (holds : Holds m) (old new : D) (page size : ℕ) (bytes : List ℕ) (x : T) → length bytes ≡ size → Writes {T = T} {E = E} m old new page bytes (Ok x) → m.tells new ≡ true → (image : Image) → m.held new ≡ Some image → bytes ≡ page_at size image page

@@ -1,5 +1,5 @@
 -- A page is put: what the pool keeps.
-use Rattle.std.proofs.Common.{◌≡◌, ◌≢◌, ◌<◌, ◌≤◌, ℕ, ◌+◌, Bool, true, false, ◌||◌, ◌==◌, inl, inr, List, length, Option, Some, None, is_some, sym, ◌∙◌, ap, refl, arith}
+use Rattle.std.proofs.Common.{◌≡◌, ◌≢◌, ◌<◌, ◌≤◌, ℕ, ◌+◌, Bool, true, false, ◌||◌, ◌==◌, inl, inr, List, length, Option, Some, None, is_some, sym, ◌∙◌, ap, refl, arith, subst}
 use Rattle.std.proofs.lemmas.Bool.{cases_Bool, cases_eq, eq-eqb, ne_eqb}
 use Rattle.mg_careful.specs.Graph.{PageGraph, EntersPage}
 use Rattle.mg_pool.specs.Dirty.{DirtyPages, content_of, is_dirty, PutsContent}
@@ -50,4 +50,11 @@ module _ (old new : DirtyPages) (page : ℕ) (bytes : List ℕ) (put : PutsConte
   apart_put was now here others kept p dirty = elim (cases_eq p page) [
     | inl e ↦ ap now e ∙ here
     | inr apart ↦ others p apart ∙ kept p (sym (ap is_some (put.others p apart)) ∙ dirty)
+  ]
+
+  -- each dirty page lies below a limit, if the page that was put does
+  pub below_put : (limit : ℕ) → page < limit → ((p : ℕ) → is_dirty old p ≡ true → p < limit) → (p : ℕ) → is_dirty new p ≡ true → p < limit
+  below_put limit below old_below p dirty = elim (cases_eq p page) [
+    | inl e ↦ subst (λ (q : ℕ). q < limit) (sym e) below
+    | inr apart ↦ old_below p (sym (ap is_some (put.others p apart)) ∙ dirty)
   ]

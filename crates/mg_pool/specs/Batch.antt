@@ -34,6 +34,11 @@ is_in pages page = is_some (content_in pages page)
 abbrev pub outside_in : List BatchPage → DirtyPage → Option ℕ
 outside_in pages d = if is_in pages d.page then None else Some d.page
 
+-- each page that a batch changes lies below a limit
+abbrev pub AreBelow : ℕ → List BatchPage → Type 0
+AreBelow limit pages = (page : ℕ) (bytes : List ℕ) → content_in pages page ≡ Some bytes
+    → page < limit
+
 -- each page is in the list once
 abbrev pub IsOnce : List BatchPage → Type 0
 IsOnce [] = Unit {0}

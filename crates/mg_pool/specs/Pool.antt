@@ -77,6 +77,10 @@ IsOnDisk m disk page = (n : ℕ) × (m.count disk ≡ Some n) × (page < n)
 abbrev pub IsCounted : {D : Type 0} → Meaning D → D → Type 0
 IsCounted m disk = (n : ℕ) × (m.count disk ≡ Some n)
 
+-- the disk tells how many pages it has, and these are no more than so many
+abbrev pub HasAtMost : {D : Type 0} → Meaning D → D → ℕ → Type 0
+HasAtMost m disk most = (n : ℕ) × (m.count disk ≡ Some n) × (n ≤ most)
+
 -- A crash at any moment since a call's start leaves what it might have left then, or the overlay of
 -- a set that was closed then, where the disk tells its images.
 abbrev pub LeavesOverlays : {D L : Type 0} → Meaning D → Pool D L → Pool D L → Type 0
@@ -84,7 +88,8 @@ LeavesOverlays m old new = m.tells old.disk ≡ true → (image : Image) → m.h
     → LeavesClosed m old.disk new.disk old.dirty old.graph image
 
 -- What every call finds and leaves: pages of the disk's size, the dirty pages entered in the graph,
--- and clean pages that are whole, not dirty, on the disk and as there.
+-- and clean pages that are whole, not dirty, on the disk and as there. No page lies past the page
+-- limit: none that is dirty or kept, and none that the disk has.
 pub record IsPool {D L : Type 0} (m : Meaning D) (pool : Pool D L) : Type 0 where
   pub size : m.size pool.disk ≡ Some pool.geometry.size
   pub page_size : pool.dirty.size ≡ pool.geometry.size
@@ -101,6 +106,10 @@ pub record IsPool {D L : Type 0} (m : Meaning D) (pool : Pool D L) : Type 0 wher
   pub clean : m.tells pool.disk ≡ true → (image : Image) → m.held pool.disk ≡ Some image
       → (page : ℕ) (bytes : List ℕ) → kept_in pool.clean page ≡ Some bytes
       → bytes ≡ page_at pool.geometry.size image page
+  pub below : (page : ℕ) → is_dirty pool.dirty page ≡ true → page < pool.geometry.limit
+  pub kept_below : (page : ℕ) (bytes : List ℕ) → kept_in pool.clean page ≡ Some bytes
+      → page < pool.geometry.limit
+  pub within : HasAtMost m pool.disk pool.geometry.limit
 
 -- the content of a page that the pool can show without the disk
 abbrev pub resident : {D L : Type 0} → Pool D L → ℕ → Option (List ℕ)

@@ -18,8 +18,9 @@
 //! without a look at the bytes.
 //!
 //! Invariant: exactly the dirty pages stand in the graph of orders, orders have no cycle, each
-//! content is one page long, and a clean page is as on the disk. After a page write or a settle has
-//! failed, every call that may answer a fault is refused.
+//! content is one page long, and a clean page is as on the disk. Each dirty and each clean page lies
+//! below the page limit, and the disk has no more pages than that. After a page write or a settle
+//! has failed, every call that may answer a fault is refused.
 //! Below: `mg_base` for the disk, `mg_careful` for the graph and the law. Above: whatever reads and
 //! changes pages.
 //! Not here: what is on a page, and which orders its change needs.

@@ -11,7 +11,7 @@ ghost use Rattle.mg_pool.specs.Fault.{TellsFault, OnlyWrites, OnlyRefuses};
 ghost use Rattle.mg_pool.specs.Refusal.{LeavesRefused};
 ghost use Rattle.mg_pool.specs.Reading.{Fetches};
 ghost use Rattle.mg_pool.specs.Run.{HasWritten, WritesPage};
-ghost use Rattle.mg_pool.specs.Pool.{IsPool, IsOnDisk, resident, KeepsContent, KeepsPages, number_of, shown, LeavesOverlays};
+ghost use Rattle.mg_pool.specs.Pool.{HasAtMost, IsPool, IsOnDisk, resident, KeepsContent, KeepsPages, number_of, shown, LeavesOverlays};
 
 use crate::clean::CleanTable;
 use crate::dirty::DirtyTable;
@@ -57,7 +57,8 @@ impl<D: Disk, L: Links> Pool<D, L> {
     ///
     /// `Memory` only. The disk comes back.
     pub fn new(alloc: Global, disk: D, geometry: Geometry) -> Result<Pool<D, L>, (D, PoolFault)>
-        requires { D.meaning.size disk ≡ Some geometry.size }
+        requires size { D.meaning.size disk ≡ Some geometry.size }
+        requires within { HasAtMost D.meaning disk geometry.limit }
         ensures pool { IfOk result (λ pool. IsPool D.meaning pool) }
         ensures disk { IfOk result (λ pool. pool.disk ≡ disk) }
         ensures geometry { IfOk result (λ pool. pool.geometry ≡ geometry) }
@@ -72,7 +73,8 @@ impl<D: Disk, L: Links> Pool<D, L> {
     /// A pool over a disk, without a dirty page, that keeps at most `clean` clean pages. It takes
     /// the room for all dirty pages here.
     ///
-    /// The size of `geometry` is the one that the disk's `page_size` gave.
+    /// The size of `geometry` is the one that the disk's `page_size` gave, and its limit is no less
+    /// than the number of pages that the disk's `pages` gave. No page past the limit is ever written.
     ///
     /// # Errors
     ///
@@ -84,6 +86,7 @@ impl<D: Disk, L: Links> Pool<D, L> {
         clean: u32,
     ) -> Result<Pool<D, L>, (D, PoolFault)>
         requires size { D.meaning.size disk ≡ Some geometry.size }
+        requires within { HasAtMost D.meaning disk geometry.limit }
         requires some { 1 ≤ clean }
         ensures pool { IfOk result (λ pool. IsPool D.meaning pool) }
         ensures disk { IfOk result (λ pool. pool.disk ≡ disk) }

@@ -179,6 +179,7 @@ module _ {D : Type 0} (m : Meaning D) (counts_to : ℕ) where
       settled = settled_at new size o line.entries end whole line.settled;
       tells = line.tells;
       sized = line.sized;
+      within = line.within;
     }
 
     promise_of : (size limit : ℕ) (o : Opening) (script : List ℕ) (old new : Stopped D) (before after : K) (end : RunEnd)

@@ -9,7 +9,8 @@ ghost use Rattle.mg_runs.specs.OtherFiles.{HoldsNoDatabase};
 ghost use Rattle.mg_runs.specs.Promise.{LeavesFile, Promise, ScriptCauses, StreamCauses};
 
 use crate::serving::serve;
-use mg_base::{Disk, Sink, Source};
+use mg_base::{Sink, Source};
+use mg_device::GrowingDisk;
 use mg_run_ends::{RunEnd, read_lines, say_end};
 use mg_scripts::lines_of_scripts_can_be_obeyed;
 use std::alloc::Global;
@@ -21,10 +22,11 @@ use std::alloc::Global;
 /// settled. Where nothing stops the run, what is live at the end of the script is rolled back, every dirty page is
 /// written and the disk settled; where something does, nothing is written any more.
 ///
-/// `limit` is the greatest number of pages that the database may have. Where as many pages are free by it at the start
-/// as the lines may take, none of them is answered DATABASE FULL; where one is, it names `limit`, or the number of pages
-/// that the disk had, if that is greater (`room` of `Headline`).
-pub fn run<D: Disk, S: Source, K: Sink>(
+/// `limit` is the greatest number of pages that the database may have: no image that a crash might leave has more, or more
+/// than the disk had, if that is greater, or than a new database has (`within` of `Headline`). Where as many pages are
+/// free by it at the start as the lines may take, none of them is answered DATABASE FULL; where one is, it names this
+/// number (`room`).
+pub fn run<D: GrowingDisk, S: Source, K: Sink>(
     alloc: Global,
     disk: D,
     limit: u32,

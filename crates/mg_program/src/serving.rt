@@ -10,8 +10,9 @@ ghost use Rattle.mg_scripts.specs.Runs.{CanBeObeyed};
 ghost use Rattle.mg_runs.specs.Laws.{closed_end as closed_end_of};
 ghost use Rattle.mg_program.specs.Serving.{HasObeyed, Serves, cut_end as cut_end_of};
 
-use mg_base::{Disk, Sink};
+use mg_base::Sink;
 use mg_core::Place;
+use mg_device::GrowingDisk;
 use mg_engine::Engine;
 use mg_model::Refusal;
 use mg_pending::PLACES;
@@ -28,7 +29,7 @@ use std::alloc::Global;
 /// Opens a disk, obeys lines on it, and puts behind what they print the line that says why the run has ended.
 ///
 /// `limit` is the page limit that is asked for.
-pub(crate) fn serve<D: Disk, K: Sink>(
+pub(crate) fn serve<D: GrowingDisk, K: Sink>(
     alloc: Global,
     disk: D,
     limit: u32,
@@ -48,7 +49,7 @@ pub(crate) fn serve<D: Disk, K: Sink>(
 }
 
 // Obeys lines on an engine that was opened, and ends the run.
-fn obey<D: Disk, K: Sink>(
+fn obey<D: GrowingDisk, K: Sink>(
     alloc: Global,
     engine: Engine<D>,
     lines: &[Line],
@@ -75,7 +76,7 @@ fn obey<D: Disk, K: Sink>(
 }
 
 // Closes the database where all lines were obeyed and what was live was rolled back; else the disk is left as it is.
-fn end_run<D: Disk, K: Sink>(
+fn end_run<D: GrowingDisk, K: Sink>(
     alloc: Global,
     engine: Engine<D>,
     ran: Ran,

@@ -1,6 +1,7 @@
 //! A row is changed in a batch of its own.
 
 ghost use Rattle.std.specs.Prelude.{◌≡◌, ◌≢◌, ◌+◌, ◌≤◌, ◌<◌, MatchResult, false, length};
+ghost use Rattle.mg_pool.specs.Batch.{AreBelow};
 ghost use Rattle.mg_pool.specs.Pool.{IsPool};
 ghost use Rattle.mg_space.specs.Taking.{IsGeometry};
 ghost use Rattle.mg_row_writes.specs.Changing.{ChangesBatch, FailsBatch, FailsFirst, FailsOver, FailsPlace, FailsReplacing, FailsTakingOut, MakesFirst, PushesOver, ReplacesNewest, TakesNewestOut, TakesPlace, not_lawful};
@@ -23,7 +24,7 @@ pub fn unlawful() -> Damaged
     }
 }
 
-/// Has the cache change a batch, if it is lawful.
+/// Has the cache change a batch of pages below the page limit, if it is lawful.
 ///
 /// # Errors
 ///
@@ -31,6 +32,7 @@ pub fn unlawful() -> Damaged
 /// changed then.
 pub fn change_batch<D: Disk>(store: &mut Store<D>, batch: Batch) -> Result<(), SpaceFault>
     requires pool { IsPool D.meaning store.old }
+    requires below { AreBelow store.old.geometry.limit batch.pages }
 
     ensures pool { IsPool D.meaning store.new }
     ensures geometry { store.new.geometry ≡ store.old.geometry }

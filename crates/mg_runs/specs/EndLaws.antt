@@ -30,6 +30,7 @@ use Rattle.mg_scripts.specs.declared.lines.LinesEnd.{LinesEnd}
 use Rattle.mg_scripts.specs.declared.lines.LinesEnd.TheVariants as lines_ends
 use Rattle.mg_scripts.specs.Ending.{IsUnbegun, ScriptDone, ScriptRan, reason_at}
 use Rattle.mg_sessions.specs.Accounts.{Accounts}
+use Rattle.mg_pool.specs.Pool.{HasAtMost}
 use Rattle.mg_space.specs.FreePages.{HasFree}
 use Rattle.mg_space.specs.ViewLaws.{CountsNow}
 use Rattle.mg_run_ends.specs.declared.ending.RunEnd.{RunEnd}
@@ -43,6 +44,7 @@ use Rattle.mg_runs.specs.GoingOnLaws.{asked_grows, free_stays, goes_on_at}
 use Rattle.mg_runs.specs.Headline.{AreServed, EndsBehind, HasEnded, Headline, IsClosingRefusal, IsSettledAt, IsUnjudged}
 use Rattle.mg_runs.specs.Laws.{IsCutOff, RunsClose, RunsStop, closed_end}
 use Rattle.mg_runs.specs.OpeningLaws.{crash_over, kept_over, nothing_settled, opening_leaves, size_over, sized_over}
+use Rattle.mg_runs.specs.WithinLaws.{LeavesWithin}
 use Rattle.mg_run_ends.specs.Printing.{IsPrinted}
 use Rattle.mg_runs.specs.UnjudgedLaws.{unjudged}
 
@@ -68,7 +70,7 @@ some_held size o entries c holds = record {
 -- ---- lines that were obeyed
 
 module _ {D P K : Type 0} (m : Meaning D) (places : Places P) (n : SinkMeaning K) (counts : CountsNow m)
-    (new_begin : NewBegin) (begin : OpeningsBegin) (own_new : OwnRowsAreNew) (disk : D) (limit : ℕ) (core now : Core D) (size : ℕ) (image : Image) (o : Opening)
+    (new_begin : NewBegin) (begin : OpeningsBegin) (own_new : OwnRowsAreNew) (few : LeavesWithin m) (disk : D) (limit : ℕ) (core now : Core D) (size : ℕ) (image : Image) (o : Opening)
     (lines : List Line) (lines_refusals : List Refusal) (lines_end : LinesEnd) (fine : Bool) (before mid : K)
     (entry : IsEntry m disk limit size image o) (opened : IsOpenedOver m disk limit core) where
   opening_crash : LeavesOnly m disk core.store.disk (HoldsFrom packed_form size o [] 0)
@@ -113,6 +115,10 @@ module _ {D P K : Type 0} (m : Meaning D) (places : Places P) (n : SinkMeaning K
     tells = ap (λ (c : Core D). m.tells c.store.disk) none.keeper ∙ opened.same.tells;
     sized = ap (λ (c : Core D). m.size c.store.disk) none.keeper
         ∙ sized_over m disk limit core size image opened entry.sized;
+    within = λ t c left. few core.store.disk (limit_on limit image)
+        (opened.same.tells ∙ entry.settled.tells.told)
+        (subst (HasAtMost m core.store.disk) (opened.limit_is image entry.settled.tells.held) opened.core_is.pool.within)
+        t c (subst (λ (k : Core D). m.left k.store.disk t c) none.keeper left);
   }
     where
       end_is : end ≡ Outside refusals.Memory
@@ -204,6 +210,8 @@ module _ {D P K : Type 0} (m : Meaning D) (places : Places P) (n : SinkMeaning K
       unjudged = end_unjudged end ends;
       tells = tells_now;
       sized = sized_now;
+      within = few now.store.disk (limit_on limit image) (tells_now ∙ entry.settled.tells.told)
+          (subst (HasAtMost m now.store.disk) limit_now now_is.pool.within);
     }
 
     -- what a database leaves that is closed, or not
@@ -233,6 +241,8 @@ module _ {D P K : Type 0} (m : Meaning D) (places : Places P) (n : SinkMeaning K
         unjudged = end_unjudged end ends;
         tells = closes.same.tells ∙ tells_now;
         sized = closes.same.size size sized_now;
+        within = few new (limit_on limit image) (closes.same.tells ∙ (tells_now ∙ entry.settled.tells.told))
+            (subst (HasAtMost m new) limit_now closes.within);
       }
 
       -- what is left of the pages that were promised is free by the greatest page limit, too
@@ -245,7 +255,7 @@ module _ {D P K : Type 0} (m : Meaning D) (places : Places P) (n : SinkMeaning K
       left_with_room all = subst LeftWithRoom geometry_now (
         all.left,
         λ count within. free_stays now.store.geometry.size now.store.geometry.limit GREATEST_LIMIT
-            (page_at now.store.geometry.size all.left.image) count now_is.geometry.limit
+            (page_at now.store.geometry.size all.left.image) count (omega arith)
             (all.free count (ran.stands.left count within)),
       )
 
@@ -274,16 +284,16 @@ cut_settled m new size o entries lines_ends.SinkFailed lines_refusals fine end c
     subst (IsSettledAt m new size o entries) (sym ends) tt
 
 pub runs_stop : {D P K : Type 0} (m : Meaning D) (places : Places P) (n : SinkMeaning K) → CountsNow m
-    → NewBegin → OpeningsBegin → OwnRowsAreNew → RunsStop m places n
-runs_stop {D} {P} {K} m places n counts new_begin begin own_new disk limit core now size image o lines lines_refusals lines_end
+    → NewBegin → OpeningsBegin → OwnRowsAreNew → LeavesWithin m → RunsStop m places n
+runs_stop {D} {P} {K} m places n counts new_begin begin own_new few disk limit core now size image o lines lines_refusals lines_end
     fine end before mid after entry opened now_is accounts done cut ends last = at done
   where
     at : ScriptDone (means_with_room m places) n core now before mid o size lines lines_refusals lines_end fine
         → Headline m n size (limit_on limit image) o lines disk now.store.disk before after end
-    at (inl ran) = stopped m places n counts new_begin begin own_new disk limit core now size image o lines lines_refusals
+    at (inl ran) = stopped m places n counts new_begin begin own_new few disk limit core now size image o lines lines_refusals
         lines_end fine before mid entry opened ran now_is accounts after end ends last
         (cut_settled m now.store.disk size o ran.entries lines_end lines_refusals fine end cut ends)
-    at (inr none) = unbegun m places n counts new_begin begin own_new disk limit core now size image o lines lines_refusals
+    at (inr none) = unbegun m places n counts new_begin begin own_new few disk limit core now size image o lines lines_refusals
         lines_end fine before mid entry opened after end none ends last
 
 -- ---- a run whose database is closed
@@ -313,19 +323,19 @@ closing_refusal m old new (refusals.Damaged page field found wanted) why = absur
 closing_refusal m old new refusals.Memory why = absurd why
 
 pub runs_close : {D P K : Type 0} (m : Meaning D) (places : Places P) (n : SinkMeaning K) → CountsNow m
-    → NewBegin → OpeningsBegin → OwnRowsAreNew → RunsClose m places n
-runs_close {D} {P} {K} m places n counts new_begin begin own_new disk new limit core now size image o lines fine
+    → NewBegin → OpeningsBegin → OwnRowsAreNew → LeavesWithin m → RunsClose m places n
+runs_close {D} {P} {K} m places n counts new_begin begin own_new few disk new limit core now size image o lines fine
     result before mid after entry opened now_is accounts done closes last = at done
   where
     with_ran : (ran : ScriptRan (means_with_room m places) n core now before mid o size lines [] lines_ends.Whole fine)
         → (it : Result (Unit {0}) Refusal) → ClosesEngine m now new it
         → IsPrinted n mid after (last_line (closed_end fine it))
         → Headline m n size (limit_on limit image) o lines disk new before after (closed_end fine it)
-    with_ran ran (Ok x) ends printed = closed m places n counts new_begin begin own_new disk limit core now size image o
+    with_ran ran (Ok x) ends printed = closed m places n counts new_begin begin own_new few disk limit core now size image o
         lines [] lines_ends.Whole fine before mid entry opened ran now_is accounts new (Ok x) ends after (Whole fine) refl
-        printed (ended m places n counts new_begin begin own_new disk limit core now size image o lines []
+        printed (ended m places n counts new_begin begin own_new few disk limit core now size image o lines []
         lines_ends.Whole fine before mid entry opened ran now_is accounts new (Ok x) ends x ends)
-    with_ran ran (Err refusal) ends printed = closed m places n counts new_begin begin own_new disk limit core now size
+    with_ran ran (Err refusal) ends printed = closed m places n counts new_begin begin own_new few disk limit core now size
         image o lines [] lines_ends.Whole fine before mid entry opened ran now_is accounts new (Err refusal) ends after (Outside refusal)
         (closing_refusal m now new refusal ends.ended) printed tt
 

@@ -57,7 +57,7 @@ clean_shown dirty image p clean = at (content_of dirty p) clean
     at (Some bytes) none = absurd cc
 
 module _ {D : Type 0} (m : Meaning D) (disk new : D) (limit : ℕ) (refusal : Refusal) where
-  unprepared_fails : (fault : OpenFault) → FailsToPrepare m disk new fault → IsOpenRefusal fault refusal
+  unprepared_fails : (fault : OpenFault) → FailsToPrepare m disk new limit fault → IsOpenRefusal fault refusal
       → FailsWith m disk new refusal
   unprepared_fails _ (unasked count keeps same rose) is = subst (FailsWith m disk new) (sym is) rose
   unprepared_fails _ (no_memory keeps same steady) is = subst (FailsWith m disk new) (sym is) steady
@@ -99,7 +99,7 @@ module _ {D : Type 0} (m : Meaning D) (disk new : D) (limit : ℕ) (refusal : Re
 
   -- ---- an opening is refused by a fault of the disk, for want of memory, or by a judgement of what the disk holds
 
-  unprepared_fault : (fault : OpenFault) → FailsToPrepare m disk new fault → IsOpenRefusal fault refusal
+  unprepared_fault : (fault : OpenFault) → FailsToPrepare m disk new limit fault → IsOpenRefusal fault refusal
       → IsOpeningFault refusal
   unprepared_fault _ (unasked count keeps same rose) is = subst IsOpeningFault (sym is) tt
   unprepared_fault _ (no_memory keeps same steady) is = subst IsOpeningFault (sym is) tt
@@ -191,7 +191,7 @@ module _ {D : Type 0} (m : Meaning D) (disk new : D) (limit : ℕ) (refusal : Re
     unread_file (Space (space.Pool (faults.Absent pages))) fails is = absurd fails.own
     unread_file (Space (space.Pool faults.Memory)) fails is = subst (IsOpeningRefusal (m.count new) size image) (sym is) tt
 
-    unprepared_file : (fault : OpenFault) → FailsToPrepare m disk new fault → IsOpenRefusal fault refusal
+    unprepared_file : (fault : OpenFault) → FailsToPrepare m disk new limit fault → IsOpenRefusal fault refusal
         → IsOpeningRefusal (m.count new) size image refusal
     unprepared_file _ (unasked count keeps same rose) is = subst (IsOpeningRefusal (m.count new) size image) (sym is) tt
     unprepared_file _ (no_memory keeps same steady) is = subst (IsOpeningRefusal (m.count new) size image) (sym is) tt

@@ -1,8 +1,9 @@
 -- How a next run begins with what a run has left, whole or cut off.
-use Rattle.std.specs.Prelude.{◌≡◌, ◌≤◌, ◌+◌, ℕ, true, length, Some}
+use Rattle.std.specs.Prelude.{◌≡◌, ◌≤◌, ◌+◌, min, ℕ, true, length, Some}
 use Rattle.mg_base.specs.Disk.{Meaning}
 use Rattle.mg_base.specs.Geometry.{is_page_size}
 use Rattle.mg_base.specs.Image.{Image, page_at}
+use Rattle.mg_base.specs.declared.geometry.TheConstants.{GREATEST_LIMIT}
 use Rattle.mg_engine_meaning.specs.Closings.{GoesOnFrom}
 use Rattle.mg_engine_meaning.specs.Openings.{IsSettledOn}
 use Rattle.mg_engine_meaning.specs.PlainTables.{EachIsPlain}
@@ -43,8 +44,8 @@ LeftIsEntry {D} m = (disk : D) (limit free size : ℕ) (image : Image) (o : Open
     → IsSettledOn m disk image → ArePlain size image → MayPromise size limit image free
     → IsEntry m disk limit size image (promising free next.later)
 
--- by a greater page limit as many pages are free
+-- by a greater page limit as many pages are free, and so they are by the greatest
 abbrev pub FreeStays : Type 0
-FreeStays = (size low high : ℕ) (pages : Pages) (free : ℕ) → low ≤ high
+FreeStays = (size low high : ℕ) (pages : Pages) (free : ℕ) → min low GREATEST_LIMIT ≤ high
     → HasFree (record { size = size; limit = low }) pages free
     → HasFree (record { size = size; limit = high }) pages free

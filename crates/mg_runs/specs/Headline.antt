@@ -1,5 +1,5 @@
 -- What the program promises of a run, in the terms of one history.
-use Rattle.std.specs.Prelude.{◌≡◌, ◌⊎◌, ◌≤◌, ◌+◌, ℕ, Bool, List, [], ◌∷◌, Some}
+use Rattle.std.specs.Prelude.{◌≡◌, ◌⊎◌, ◌≤◌, ◌+◌, ℕ, Bool, List, [], ◌∷◌, length, Some}
 use Rattle.mg_base.specs.Disk.{MayLeave, Meaning}
 use Rattle.mg_base.specs.Image.{Image, page_at}
 use Rattle.mg_base.specs.Moments.{LeavesOnly}
@@ -129,7 +129,7 @@ IsSettledAt m new size o entries end = Unit {0}
 -- transcript, and the line that says why the run has ended; every image that a crash since the start might have left
 -- holds what the history has after some durable event, and each that a crash may leave at the end has all that were
 -- acknowledged. With enough free pages for it and for those before it no entry is answered DATABASE FULL, and where one
--- is it names the page limit by which the disk was opened.
+-- is it names the page limit by which the disk was opened, and the disk never has more pages than that.
 pub record Headline {D K : Type 0} (m : Meaning D) (n : SinkMeaning K) (size limit : ℕ) (o : Opening)
     (lines : List Line) (old new : D) (before after : K) (end : RunEnd) : Type 0 where
   pub entries : Entries
@@ -149,3 +149,5 @@ pub record Headline {D K : Type 0} (m : Meaning D) (n : SinkMeaning K) (size lim
   -- the disk tells as before, and has pages of the same size
   pub tells : m.tells new ≡ m.tells old
   pub sized : m.size new ≡ Some size
+  -- no image that a crash might have left, at any moment up to the end, has more pages than the page limit
+  pub within : (t : ℕ) (c : Image) → m.left new t c → length c ≤ limit

@@ -19,3 +19,4 @@ pub mod OtherFiles
 pub mod Promise
 pub mod PromisingLaws
 pub mod UnjudgedLaws
+pub mod WithinLaws

@@ -27,12 +27,13 @@ use Rattle.mg_space.specs.View.{Tells}
 use Rattle.mg_space.specs.ViewLaws.{CountsNow}
 use Rattle.mg_run_ends.specs.declared.ending.RunEnd.{RunEnd}
 use Rattle.mg_run_ends.specs.Ends.{IsOutside, last_line}
-use Rattle.mg_runs.specs.Entry.{IsOpeningOf, TellsWholePages, of_new, of_sound}
+use Rattle.mg_runs.specs.Entry.{IsOpeningOf, TellsWholePages, limit_on, of_new, of_sound}
 use Rattle.mg_runs.specs.FaultLaws.{opening_fault}
 use Rattle.mg_runs.specs.GoingOnLaws.{goes_on_at, opening_is}
 use Rattle.mg_runs.specs.Headline.{AreUnserved, IsOpeningFault, IsSettledAt}
 use Rattle.mg_runs.specs.UnjudgedLaws.{outside_unjudged}
 use Rattle.mg_runs.specs.Laws.{OpeningsAreJudged}
+use Rattle.mg_runs.specs.WithinLaws.{LeavesHeld}
 use Rattle.mg_run_ends.specs.Printing.{IsPrinted}
 
 -- ---- images
@@ -167,8 +168,8 @@ nothing_settled m new size o entries refusal end (inr (other, is)) =
     subst (IsSettledAt m new size o entries) (sym is) tt
 
 pub openings_are_judged : {D K : Type 0} (m : Meaning D) (n : SinkMeaning K) → CountsNow m → NewBegin
-    → OpeningsBegin → OwnRowsAreNew → OpeningsAreJudged m n
-openings_are_judged m n counts new_begin begin own_new disk new limit refusal size image o lines end before after entry refused ends last =
+    → OpeningsBegin → OwnRowsAreNew → LeavesHeld m → OpeningsAreJudged m n
+openings_are_judged m n counts new_begin begin own_new few disk new limit refusal size image o lines end before after entry refused ends last =
     record {
       entries = [];
       served = inr (unserved n before after refusal end (opening_fault m disk new limit refusal image
@@ -186,6 +187,8 @@ openings_are_judged m n counts new_begin begin own_new disk new limit refusal si
           (not_judged m disk new limit refusal size image refused entry.sized entry.settled o entry.opening) ends;
       tells = refused.same.tells;
       sized = refused.same.size size entry.sized;
+      within = few new (limit_on limit image) (refused.same.tells ∙ entry.settled.tells.told)
+          (λ now held. refused.within image now entry.settled.tells.held held);
     }
   where
     leaves : LeavesOnly m disk new (HoldsFrom packed_form size o [] 0)

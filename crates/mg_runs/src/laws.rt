@@ -6,13 +6,14 @@ ghost use Rattle.mg_runs.specs.GoingOn.{FreeStays, LeftIsEntry};
 ghost use Rattle.mg_runs.specs.Laws.{AnyFreeBegins, BlankIsEntry, ClosingsFail, LinesFail, OpeningsAreJudged, OpeningsFail, OtherFilesAreRefused, OtherFilesAreUnopened, FaultyIsEntry, ForcedIsEntry, RunsBegin, RunsClose, RunsStop, SettledIsEntry};
 
 use mg_base::{Disk, Sink};
+use mg_device::GrowingDisk;
 use mg_engine_meaning::new_databases_begin;
 use mg_grown_catalogs::catalogs_grow;
 use mg_model::histories_go_on;
 use mg_new_databases::disks_in_memory_are_whole;
 
 /// A disk that was not opened: its history has no entry.
-pub fn openings_are_judged<D: Disk, K: Sink>()
+pub fn openings_are_judged<D: GrowingDisk, K: Sink>()
     ensures { OpeningsAreJudged D.meaning K.meaning }
 {
     new_databases_begin();
@@ -40,7 +41,7 @@ pub fn runs_begin<D: Disk>()
 }
 
 /// A run ends without that its database is closed.
-pub fn runs_stop<D: Disk, P, K: Sink>()
+pub fn runs_stop<D: GrowingDisk, P, K: Sink>()
     ensures { (places : Places P) → RunsStop D.meaning places K.meaning }
 {
     new_databases_begin();
@@ -49,7 +50,7 @@ pub fn runs_stop<D: Disk, P, K: Sink>()
 }
 
 /// A run ends, and its database is closed, or that is refused.
-pub fn runs_close<D: Disk, P, K: Sink>()
+pub fn runs_close<D: GrowingDisk, P, K: Sink>()
     ensures { (places : Places P) → RunsClose D.meaning places K.meaning }
 {
     new_databases_begin();

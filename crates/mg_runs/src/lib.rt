@@ -3,10 +3,10 @@
 //! Owns: the definitions by which a run is judged. In `specs/`: `Entry` (the disks on which a history can begin, and how
 //! many free pages it is promised), `Headline` (one legal history of the lines, its transcript, that none of them is
 //! answered DATABASE FULL where they need no more pages than were promised, that each image a crash leaves holds it and
-//! is what a next history can begin with, and that the disk is not said to be damaged), `GoingOn` (how a next history
-//! begins), `Promise` (the script, and the causes that hold over any disk). `Laws` has what the steps of a run give of
-//! it; `OpeningLaws`, `BegunLaws`, `EndLaws`, `UnjudgedLaws`, `FaultLaws`, `EntryLaws`, `GoingOnLaws`, `PromisingLaws`
-//! and `MemLaws` prove that.
+//! is what a next history can begin with, that none has more pages than the page limit, and that the disk is not said to
+//! be damaged), `GoingOn` (how a next history begins), `Promise` (the script, and the causes that hold over any disk).
+//! `Laws` has what the steps of a run give of it; `OpeningLaws`, `BegunLaws`, `EndLaws`, `UnjudgedLaws`, `FaultLaws`,
+//! `EntryLaws`, `GoingOnLaws`, `PromisingLaws`, `WithinLaws` and `MemLaws` prove that.
 //!
 //! Invariant: none, it keeps no state.
 //! Below: `mg_scripts`, the lines of a script; `mg_engine_meaning`, the opening and closing of an engine; `mg_transcript`,

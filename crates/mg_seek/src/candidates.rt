@@ -41,7 +41,7 @@ pub fn speaker_among_candidates<D: Disk, S: States>(
 ) -> Result<Option<RecId>, SpaceFault>
     requires pool { IsPool D.meaning store.old }
     requires geometry { IsGeometry store.old.geometry }
-    requires whole { AreWhole store.old.geometry.size batch.now.pages }
+    requires whole { AreWhole store.old.geometry batch.now.pages }
     requires columns { length table.now.shape.columns ≤ MOST_COLUMNS }
     requires pointer { table.now.pointer.0 < GREATEST_LIMIT }
 
@@ -71,7 +71,7 @@ fn first_that_speaks<D: Disk, S: States>(
 ) -> Result<Option<RecId>, SpaceFault>
     requires pool { IsPool D.meaning store.old }
     requires geometry { IsGeometry store.old.geometry }
-    requires whole { AreWhole store.old.geometry.size batch.now.pages }
+    requires whole { AreWhole store.old.geometry batch.now.pages }
     requires columns { length table.now.shape.columns ≤ MOST_COLUMNS }
     requires pointer { table.now.pointer.0 < GREATEST_LIMIT }
     requires online { store.old.offline ≡ None }
@@ -109,7 +109,7 @@ fn speaks_of<D: Disk, S: States>(
 ) -> Result<bool, SpaceFault>
     requires pool { IsPool D.meaning store.old }
     requires geometry { IsGeometry store.old.geometry }
-    requires whole { AreWhole store.old.geometry.size batch.now.pages }
+    requires whole { AreWhole store.old.geometry batch.now.pages }
     requires columns { length table.now.shape.columns ≤ MOST_COLUMNS }
     requires pointer { table.now.pointer.0 < GREATEST_LIMIT }
 

@@ -31,7 +31,7 @@ pub fn table_records<D: Disk>(
 ) -> Result<Vec<RecId>, SpaceFault>
     requires pool { IsPool D.meaning store.old }
     requires geometry { IsGeometry store.old.geometry }
-    requires whole { AreWhole store.old.geometry.size batch.now.pages }
+    requires whole { AreWhole store.old.geometry batch.now.pages }
     requires owner { owner.0 < GREATEST_LIMIT }
 
     ensures keeps { KeepsStore D.meaning store.old store.new }
@@ -55,7 +55,7 @@ fn page_records<D: Disk>(
 ) -> Result<Vec<RecId>, SpaceFault>
     requires pool { IsPool D.meaning store.old }
     requires geometry { IsGeometry store.old.geometry }
-    requires whole { AreWhole store.old.geometry.size batch.now.pages }
+    requires whole { AreWhole store.old.geometry batch.now.pages }
     requires online { store.old.offline ≡ None }
     requires few { length data_pages.now < 2 ^ 32 }
 
@@ -86,7 +86,7 @@ fn add_page<D: Disk>(
 ) -> Result<(), SpaceFault>
     requires pool { IsPool D.meaning store.old }
     requires geometry { IsGeometry store.old.geometry }
-    requires whole { AreWhole store.old.geometry.size batch.now.pages }
+    requires whole { AreWhole store.old.geometry batch.now.pages }
 
     ensures keeps { KeepsStore D.meaning store.old store.new }
     ensures fault { TellsFault D.meaning store.old store.new (pool_answer result) }

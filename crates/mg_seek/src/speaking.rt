@@ -45,7 +45,7 @@ pub fn speaker<D: Disk, S: States>(
 ) -> Result<Option<RecId>, SpaceFault>
     requires pool { IsPool D.meaning store.old }
     requires geometry { IsGeometry store.old.geometry }
-    requires whole { AreWhole store.old.geometry.size batch.now.pages }
+    requires whole { AreWhole store.old.geometry batch.now.pages }
     requires columns { length table.now.shape.columns ≤ MOST_COLUMNS }
     requires pointer { table.now.pointer.0 < GREATEST_LIMIT }
 
@@ -75,7 +75,7 @@ fn speaker_among<D: Disk, S: States>(
 ) -> Result<Option<RecId>, SpaceFault>
     requires pool { IsPool D.meaning store.old }
     requires geometry { IsGeometry store.old.geometry }
-    requires whole { AreWhole store.old.geometry.size batch.now.pages }
+    requires whole { AreWhole store.old.geometry batch.now.pages }
     requires columns { length table.now.shape.columns ≤ MOST_COLUMNS }
     requires online { store.old.offline ≡ None }
 
@@ -112,7 +112,7 @@ pub(crate) fn speaks<D: Disk, S: States>(
 ) -> Result<bool, SpaceFault>
     requires pool { IsPool D.meaning store.old }
     requires geometry { IsGeometry store.old.geometry }
-    requires whole { AreWhole store.old.geometry.size batch.now.pages }
+    requires whole { AreWhole store.old.geometry batch.now.pages }
     requires columns { length table.now.shape.columns ≤ MOST_COLUMNS }
 
     ensures keeps { KeepsStore D.meaning store.old store.new }

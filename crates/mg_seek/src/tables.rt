@@ -42,7 +42,7 @@ pub fn rows_in_view<D: Disk, S: States>(
 ) -> Result<Vec<Row>, SpaceFault>
     requires pool { IsPool D.meaning store.old }
     requires geometry { IsGeometry store.old.geometry }
-    requires whole { AreWhole store.old.geometry.size batch.now.pages }
+    requires whole { AreWhole store.old.geometry batch.now.pages }
     requires columns { length table.now.shape.columns ≤ MOST_COLUMNS }
     requires pointer { table.now.pointer.0 < GREATEST_LIMIT }
 
@@ -72,7 +72,7 @@ fn rows_among<D: Disk, S: States>(
 ) -> Result<Vec<Row>, SpaceFault>
     requires pool { IsPool D.meaning store.old }
     requires geometry { IsGeometry store.old.geometry }
-    requires whole { AreWhole store.old.geometry.size batch.now.pages }
+    requires whole { AreWhole store.old.geometry batch.now.pages }
     requires columns { length table.now.shape.columns ≤ MOST_COLUMNS }
     requires online { store.old.offline ≡ None }
 
@@ -108,7 +108,7 @@ fn add_row<D: Disk, S: States>(
 ) -> Result<(), SpaceFault>
     requires pool { IsPool D.meaning store.old }
     requires geometry { IsGeometry store.old.geometry }
-    requires whole { AreWhole store.old.geometry.size batch.now.pages }
+    requires whole { AreWhole store.old.geometry batch.now.pages }
     requires columns { length table.now.shape.columns ≤ MOST_COLUMNS }
 
     ensures keeps { KeepsStore D.meaning store.old store.new }
@@ -147,7 +147,7 @@ pub fn table_named<D: Disk, S: States>(
 ) -> Result<Option<Table>, SpaceFault>
     requires pool { IsPool D.meaning store.old }
     requires geometry { IsGeometry store.old.geometry }
-    requires whole { AreWhole store.old.geometry.size batch.now.pages }
+    requires whole { AreWhole store.old.geometry batch.now.pages }
     requires columns { length catalog.now.shape.columns ≤ MOST_COLUMNS }
     requires pointer { catalog.now.pointer.0 < GREATEST_LIMIT }
 

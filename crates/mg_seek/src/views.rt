@@ -57,7 +57,7 @@ pub fn row_in_view<D: Disk, S: States>(
 ) -> Result<Option<Row>, SpaceFault>
     requires pool { IsPool D.meaning store.old }
     requires geometry { IsGeometry store.old.geometry }
-    requires whole { AreWhole store.old.geometry.size batch.now.pages }
+    requires whole { AreWhole store.old.geometry batch.now.pages }
     requires columns { length table.now.shape.columns ≤ MOST_COLUMNS }
 
     ensures keeps { KeepsStore D.meaning store.old store.new }
@@ -95,7 +95,7 @@ pub fn record_key<D: Disk, S: States>(
 ) -> Result<Option<Value>, SpaceFault>
     requires pool { IsPool D.meaning store.old }
     requires geometry { IsGeometry store.old.geometry }
-    requires whole { AreWhole store.old.geometry.size batch.now.pages }
+    requires whole { AreWhole store.old.geometry batch.now.pages }
     requires columns { length table.now.shape.columns ≤ MOST_COLUMNS }
 
     ensures keeps { KeepsStore D.meaning store.old store.new }
@@ -130,7 +130,7 @@ pub fn obstacle_for<D: Disk, S: States>(
 ) -> Result<Option<Obstacle>, SpaceFault>
     requires pool { IsPool D.meaning store.old }
     requires geometry { IsGeometry store.old.geometry }
-    requires whole { AreWhole store.old.geometry.size batch.now.pages }
+    requires whole { AreWhole store.old.geometry batch.now.pages }
 
     ensures keeps { KeepsStore D.meaning store.old store.new }
     ensures fault { TellsFault D.meaning store.old store.new (pool_answer result) }

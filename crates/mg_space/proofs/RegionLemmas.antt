@@ -14,7 +14,7 @@ use Rattle.mg_pool.specs.Batch.{Changed, PutsPage}
 use Rattle.mg_pool.specs.declared.pool.Pool.{Pool}
 use Rattle.mg_space.specs.declared.fault.SpaceFault.{SpaceFault}
 use Rattle.mg_space.specs.declared.fault.SpaceFault.TheVariants as faults
-use Rattle.mg_space.specs.Taking.{IsFree, IsFull, IsGeometry, IsMarked, MarksFixed, PutsInventory, RefusesRegion, RefusesTake, TakesBit, TakesInRegion, TakesPage, region_of}
+use Rattle.mg_space.specs.Taking.{IsFree, IsFull, IsGeometry, IsMarked, MarksFixed, PutsInventory, RefusesRegion, RefusesTake, TakesBit, TakesInRegion, TakesPage, region_of, taking_limit}
 use Rattle.mg_space.specs.TakingLaws.{bits_some, region_is}
 use Rattle.mg_space.specs.View.{AreWhole, KeepsStore, Tells, viewed}
 use Rattle.mg_space.specs.ViewLaws.{tells_on, viewed_on}
@@ -28,31 +28,31 @@ written_back len made rest put same is = is
 
 -- ---- in a region: by the numbers that the program has
 
-module _ (g geometry : Geometry) (region bits_ below : ℕ) (lawful : IsGeometry g)
-    (same : geometry ≡ g) (bits_is : bits_ ≡ bits g.size)
-    (below_is : below ≡ min bits_ (geometry.limit - region * bits_)) where
+module _ (g : Geometry) (limit region bits_ below : ℕ) (lawful : IsGeometry g)
+    (limit_is : limit ≡ taking_limit g) (bits_is : bits_ ≡ bits g.size)
+    (below_is : below ≡ min bits_ (limit - region * bits_)) where
   abbrev at : ℕ
   at = inventory_page g.size region
 
-  below_to : below ≡ min (bits g.size) (g.limit - region * bits g.size)
-  below_to = below_is ∙ (ap (λ (x : Geometry). min bits_ (x.limit - region * bits_)) same
-      ∙ ap (λ (b : ℕ). min b (g.limit - region * b)) bits_is)
+  below_to : below ≡ min (bits g.size) (taking_limit g - region * bits g.size)
+  below_to = below_is ∙ (ap (λ (l : ℕ). min bits_ (l - region * bits_)) limit_is
+      ∙ ap (λ (b : ℕ). min b (taking_limit g - region * b)) bits_is)
 
   pub none_in : (old : Pages) (page seen : List ℕ) → seen ≡ page
       → MarksFixed at region (old at) page → AllUsed seen below
       → (n : ℕ) → region_of g.size n ≡ region → IsFree g old n → ⊥
   none_in old page seen seen_is marks all = none_free g region old page lawful marks
-      (subst (λ (p : List ℕ). AllUsed p (min (bits g.size) (g.limit - region * bits g.size)))
+      (subst (λ (p : List ℕ). AllUsed p (min (bits g.size) (taking_limit g - region * bits g.size)))
       seen_is (subst (λ (b : ℕ). AllUsed seen b) below_to all))
 
   first_to : (page seen : List ℕ) (bit : ℕ) → seen ≡ page → IsFirstFree seen below bit
-      → IsFirstFree page (min (bits g.size) (g.limit - region * bits g.size)) bit
+      → IsFirstFree page (min (bits g.size) (taking_limit g - region * bits g.size)) bit
   first_to page seen bit seen_is first = subst (λ (p : List ℕ). IsFirstFree p
-      (min (bits g.size) (g.limit - region * bits g.size)) bit) seen_is
+      (min (bits g.size) (taking_limit g - region * bits g.size)) bit) seen_is
       (subst (λ (b : ℕ). IsFirstFree seen b bit) below_to first)
 
   pub puts_in : (page seen made put : List ℕ) (bit : ℕ) (batch after : Changed) → seen ≡ page
-      → put ≡ made → length page ≡ g.size → IsMarked region page → at < g.limit
+      → put ≡ made → length page ≡ g.size → IsMarked region page → at < taking_limit g
       → TakesBit below seen made bit → PutsPage batch after (region * bits_ + 1) put
       → PutsInventory g batch after (region * bits_ + bit)
   puts_in page seen made put bit batch after seen_is put_is len marked inside takes_ puts_ =
@@ -64,7 +64,7 @@ module _ (g geometry : Geometry) (region bits_ below : ℕ) (lawful : IsGeometry
       (subst (λ (b : ℕ). PutsPage batch after (region * b + 1) put) bits_is puts_))
 
   pub takes_in : (old new : Pages) (page seen made put : List ℕ) (bit : ℕ) → seen ≡ page
-      → put ≡ made → length page ≡ g.size → MarksFixed at region (old at) page → at < g.limit
+      → put ≡ made → length page ≡ g.size → MarksFixed at region (old at) page → at < taking_limit g
       → TakesBit below seen made bit → new (region * bits_ + 1) ≡ put
       → ((m : ℕ) → m ≢ region * bits_ + 1 → new m ≡ old m)
       → TakesInRegion g region old new (Some (record { 0 = region * bits_ + bit }))
@@ -79,14 +79,14 @@ module _ (g geometry : Geometry) (region bits_ below : ℕ) (lawful : IsGeometry
             before,
       )
     where
-      first : IsFirstFree page (min (bits g.size) (g.limit - region * bits g.size)) bit
+      first : IsFirstFree page (min (bits g.size) (taking_limit g - region * bits g.size)) bit
       first = first_to page seen bit seen_is takes_.first
 
 -- ---- region after region
 
 -- why no page is taken, where none before the region is free
 refuses : (g : Geometry) (region : ℕ) (pages : Pages) (fault : SpaceFault)
-    → inventory_page g.size region < g.limit
+    → inventory_page g.size region < taking_limit g
     → ((n : ℕ) → n < region * bits g.size → IsFree g pages n → ⊥)
     → RefusesRegion g region pages fault → RefusesTake g pages fault
 refuses g region pages (faults.Full limit) below none never = absurd never
@@ -107,7 +107,7 @@ module _ {D L : Type 0} (m : Meaning D) (a b : Pool D L) (image : Image)
   views = ap (viewed b image) same ∙ viewed_on m a b image batch_a kept
 
   pub refuses_on : (fault : SpaceFault)
-      → inventory_page a.geometry.size region < a.geometry.limit
+      → inventory_page a.geometry.size region < taking_limit a.geometry
       → (Tells m b.disk image → RefusesRegion b.geometry region (viewed b image batch_b) fault)
       → RefusesTake a.geometry (viewed a image batch_a) fault
   refuses_on fault below refusal = refuses a.geometry region (viewed a image batch_a) fault below
@@ -174,9 +174,9 @@ module _ (g h : Geometry) (a b : Changed) (same : h ≡ g) (batch : b ≡ a) whe
   pub lawful_on : IsGeometry g → IsGeometry h
   lawful_on lawful = subst IsGeometry (sym same) lawful
 
-  pub whole_still : AreWhole g.size a.pages → AreWhole h.size b.pages
-  whole_still whole = subst (λ (x : Geometry). AreWhole x.size b.pages) (sym same)
-      (subst (λ (x : Changed). AreWhole g.size x.pages) (sym batch) whole)
+  pub whole_still : AreWhole g a.pages → AreWhole h b.pages
+  whole_still whole = subst (λ (x : Geometry). AreWhole x b.pages) (sym same)
+      (subst (λ (x : Changed). AreWhole g x.pages) (sym batch) whole)
 
   pub puts_on : (new : Changed) (taken : Option PageNo) (page : PageNo) → taken ≡ Some page
       → IfSome taken (λ given. PutsInventory h b new given.0) → PutsInventory g a new page.0
@@ -186,7 +186,7 @@ module _ (g h : Geometry) (a b : Changed) (same : h ≡ g) (batch : b ≡ a) whe
 
 -- no page is free where no region has one
 pub full : (g : Geometry) (region end : ℕ) (pages : Pages) → IsGeometry g → end ≤ region
-    → ((r : ℕ) → r < end ↔ (inventory_page g.size r < g.limit))
+    → ((r : ℕ) → r < end ↔ (inventory_page g.size r < taking_limit g))
     → ((n : ℕ) → n < region * bits g.size → IsFree g pages n → ⊥) → IsFull g pages
 full g region end pages lawful past each none n free = none n (inside (cases_lt n (region * bits g.size))) free
   where

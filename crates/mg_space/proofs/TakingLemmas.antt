@@ -17,7 +17,7 @@ use Rattle.mg_pip.specs.PipPage.{AllUsed, IsFirstFree, SetsUsed, bits, pip_check
 use Rattle.mg_pip.specs.PipPageLaws.{same_tests, zero_unused}
 use Rattle.mg_pip.specs.declared.page.TheConstants.{BITS_AT}
 use Rattle.mg_pool.specs.Batch.{Changed, PutsPage}
-use Rattle.mg_space.specs.Taking.{IsFree, IsGeometry, IsLawfulRegion, IsMarked, IsReady, MarksFixed, PutsInventory, SetsFixed, TakesPage, is_fixed, region_of}
+use Rattle.mg_space.specs.Taking.{IsFree, IsGeometry, IsLawfulRegion, IsMarked, IsReady, MarksFixed, PutsInventory, SetsFixed, TakesPage, is_fixed, region_of, taking_limit}
 use Rattle.mg_space.specs.TakingLaws.{bit_is, bits_some, no_inventory_page, page_is, region_is}
 
 -- ---- the fixed bits
@@ -188,12 +188,12 @@ module _ (g : Geometry) (region : ℕ) (old : Pages) (page : List ℕ) (lawful :
 
   -- where all bits below the limit are set, no page of the region is free
   pub none_free : MarksFixed at region (old at) page
-      → AllUsed page (min (bits g.size) (g.limit - region * bits g.size))
+      → AllUsed page (min (bits g.size) (taking_limit g - region * bits g.size))
       → (n : ℕ) → region_of g.size n ≡ region → IsFree g old n → ⊥
   none_free marks all n of free =
       used_is_taken marks n of (all (n % bits g.size) inside) free
     where
-      inside : n % bits g.size < min (bits g.size) (g.limit - region * bits g.size)
+      inside : n % bits g.size < min (bits g.size) (taking_limit g - region * bits g.size)
       inside =
           let some = bits_some g.size lawful.size in
           let whole : region * bits g.size + n % bits g.size ≡ n =
@@ -203,14 +203,14 @@ module _ (g : Geometry) (region : ℕ) (old : Pages) (page : List ℕ) (lawful :
           omega arith
 
   module _ (bit : ℕ)
-      (first : IsFirstFree page (min (bits g.size) (g.limit - region * bits g.size)) bit) where
+      (first : IsFirstFree page (min (bits g.size) (taking_limit g - region * bits g.size)) bit) where
     abbrev taken : ℕ
     taken = region * bits g.size + bit
 
     bit_inside : bit < bits g.size
     bit_inside = let inside = first.inside in omega arith
 
-    pub below_limit : taken < g.limit
+    pub below_limit : taken < taking_limit g
     below_limit = let inside = first.inside in omega arith
 
     pub of_region : region_of g.size taken ≡ region
@@ -243,12 +243,12 @@ module _ (g : Geometry) (region : ℕ) (old : Pages) (page : List ℕ) (lawful :
     no_inventory marked = no_inventory_page g.size taken lawful.size
         (λ one. not_fixed marked (or_left (bit == 1) _ (eq-eqb bit 1 (sym of_bit ∙ one))))
 
-    pub puts : (made : List ℕ) (batch after : Changed) → IsMarked region page → at < g.limit
+    pub puts : (made : List ℕ) (batch after : Changed) → IsMarked region page → at < taking_limit g
         → length made ≡ g.size → PutsPage batch after at made
         → PutsInventory g batch after taken
     puts made batch after marked below len put = record {
       below = below_limit;
-      region = subst (λ (r : ℕ). inventory_page g.size r < g.limit) (sym of_region) below;
+      region = subst (λ (r : ℕ). inventory_page g.size r < taking_limit g) (sym of_region) below;
       no_header = no_header_page marked;
       no_inventory = no_inventory marked;
       bytes = made;
@@ -257,12 +257,12 @@ module _ (g : Geometry) (region : ℕ) (old : Pages) (page : List ℕ) (lawful :
           put;
     }
 
-    is_free : MarksFixed at region (old at) page → IsMarked region page → at < g.limit
+    is_free : MarksFixed at region (old at) page → IsMarked region page → at < taking_limit g
         → IsFree g old taken
     unfolding is_used
     is_free marks marked below = record {
       below = below_limit;
-      region = subst (λ (r : ℕ). inventory_page g.size r < g.limit) (sym of_region) below;
+      region = subst (λ (r : ℕ). inventory_page g.size r < taking_limit g) (sym of_region) below;
       no_header = no_header_page marked;
       no_inventory = no_inventory marked;
       unused = subst (λ (r : ℕ). used_in (old (inventory_page g.size r)) (taken % bits g.size) ≡ false)
@@ -295,7 +295,7 @@ module _ (g : Geometry) (region : ℕ) (old : Pages) (page : List ℕ) (lawful :
             used_is_taken marks m region_same (ap (used_in page) bit_same
             ∙ first.least (m - region * bits g.size) (omega arith))
 
-    pub takes : (new : Pages) (made : List ℕ) → MarksFixed at region (old at) page → at < g.limit
+    pub takes : (new : Pages) (made : List ℕ) → MarksFixed at region (old at) page → at < taking_limit g
         → length page ≡ g.size → SetsUsed page made bit true → new at ≡ made
         → ((m : ℕ) → m ≢ at → new m ≡ old m)
         → ((m : ℕ) → m < region * bits g.size → IsFree g old m → ⊥)

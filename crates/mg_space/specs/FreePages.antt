@@ -3,11 +3,11 @@ use Rattle.std.specs.Prelude.{◌≡◌, ◌<◌, ℕ}
 use Rattle.mg_base.specs.declared.geometry.Geometry.{Geometry}
 use Rattle.mg_image.specs.Form.{Pages}
 use Rattle.mg_image.specs.Inventory.{inventory_page}
-use Rattle.mg_space.specs.Taking.{IsFree, IsGeometry, IsLawfulRegion, TakesPage}
+use Rattle.mg_space.specs.Taking.{IsFree, IsGeometry, IsLawfulRegion, TakesPage, taking_limit}
 
 -- each inventory page below the limit is lawful, or blank
 abbrev pub HasRegions : Geometry → Pages → Type 0
-HasRegions g pages = (region : ℕ) → inventory_page g.size region < g.limit
+HasRegions g pages = (region : ℕ) → inventory_page g.size region < taking_limit g
     → IsLawfulRegion (inventory_page g.size region) region (pages (inventory_page g.size region))
 
 -- they are so still, where a page was taken

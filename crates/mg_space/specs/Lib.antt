@@ -1,3 +1,4 @@
+pub mod BelowLaws
 pub mod Demands
 pub mod FreePages
 pub mod HandedLaws

@@ -22,4 +22,4 @@ lawful_region size pages at region whole (inr wanted) = inr wanted.fields
 pub sound_regions : SoundRegionsAreLawful
 sound_regions g pages lawful whole has region below =
     lawful_region g.size pages (inventory_page g.size region) region (whole (inventory_page g.size region))
-    (has region (let most = lawful.limit in omega (arith, below, most)))
+    (has region (omega (arith, below)))

@@ -1,5 +1,5 @@
 -- Which page is taken, and what the taking changes.
-use Rattle.std.specs.Prelude.{◌≡◌, ◌≢◌, ◌<◌, ◌≤◌, ◌⊎◌, ◌*◌, ◌/◌, ◌%◌, ◌==◌, ◌&&◌, ◌||◌, ℕ, Bool, true, false, List, length, take, Option, Some, None, Err}
+use Rattle.std.specs.Prelude.{◌≡◌, ◌≢◌, ◌<◌, ◌≤◌, ◌⊎◌, ◌*◌, ◌/◌, ◌%◌, ◌==◌, ◌&&◌, ◌||◌, min, ℕ, Bool, true, false, List, length, take, Option, Some, None, Err}
 use Rattle.mg_base.specs.Checks.{PassesAll, verdict}
 use Rattle.mg_base.specs.Geometry.{is_page_size}
 use Rattle.mg_base.specs.Image.{blank}
@@ -15,10 +15,14 @@ use Rattle.mg_pool.specs.Batch.{Changed, PutsPage}
 use Rattle.mg_space.specs.declared.fault.SpaceFault.{SpaceFault}
 use Rattle.mg_space.specs.declared.fault.SpaceFault.TheVariants as faults
 
--- a page size is one of the five, and the limit is that of a database
+-- a page size is one of the five
 pub record IsGeometry (g : Geometry) : Type 0 where
   pub size : is_page_size g.size ≡ true
-  pub limit : g.limit ≤ GREATEST_LIMIT
+
+-- Below this number pages are taken: below the page limit of the file, and of the pages that a database
+-- may have. A file that has more pages keeps them.
+abbrev pub taking_limit : Geometry → ℕ
+taking_limit g = min g.limit GREATEST_LIMIT
 
 -- the region that a page belongs to
 abbrev pub region_of : ℕ → ℕ → ℕ
@@ -27,8 +31,8 @@ region_of size n = n / bits size
 -- A page is free: it lies below the limit, and so does the inventory page of its region; it is
 -- neither the header page nor an inventory page; and it is not marked as used.
 pub record IsFree (g : Geometry) (pages : Pages) (n : ℕ) : Type 0 where
-  pub below : n < g.limit
-  pub region : inventory_page g.size (region_of g.size n) < g.limit
+  pub below : n < taking_limit g
+  pub region : inventory_page g.size (region_of g.size n) < taking_limit g
   pub no_header : n ≢ 0
   pub no_inventory : (region : ℕ) → inventory_page g.size region ≢ n
   pub unused : is_used g.size pages n ≡ false
@@ -103,7 +107,7 @@ IsFull g pages = (n : ℕ) → IsFree g pages n → ⊥
 -- A region has its inventory page below the limit, which is damaged, and no page before it is free.
 pub record IsFirstDamage (g : Geometry) (pages : Pages) (damage : Damaged) : Type 0 where
   pub region : ℕ
-  pub below : inventory_page g.size region < g.limit
+  pub below : inventory_page g.size region < taking_limit g
   pub none_before : (n : ℕ) → n < region * bits g.size → IsFree g pages n → ⊥
   pub damaged : IsRegionDamage (record { 0 = inventory_page g.size region }) region
       (pages (inventory_page g.size region)) damage
@@ -125,8 +129,8 @@ RefusesRegion g region pages (faults.Pool fault) = Unit {0}
 -- The batch has one inventory page more, or another content of it: that of a page which lies below
 -- the limit and is neither the header page nor an inventory page.
 pub record PutsInventory (g : Geometry) (old new : Changed) (n : ℕ) : Type 0 where
-  pub below : n < g.limit
-  pub region : inventory_page g.size (region_of g.size n) < g.limit
+  pub below : n < taking_limit g
+  pub region : inventory_page g.size (region_of g.size n) < taking_limit g
   pub no_header : n ≢ 0
   pub no_inventory : (region : ℕ) → inventory_page g.size region ≢ n
   pub bytes : List ℕ

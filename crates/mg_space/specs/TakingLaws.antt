@@ -120,7 +120,7 @@ module _ (g : Geometry) (old new : Pages) (n : ℕ) (lawful : IsGeometry g)
   -- the inventory page is lawful
   pub takes_region : (k : ℕ) → inventory_page g.size k ≡ at → HasRegion g.size new at k
   takes_region k same = inr (record {
-    below = let below = takes.free.region in let most = lawful.limit in omega arith;
+    below = let below = takes.free.region in omega (arith, below);
     used = takes_own;
     fields = subst (λ (r : ℕ). PassesAll (pip_checks (new at) at r)) (sym (one_region g.size k region lawful.size same))
         takes.tests;

@@ -1,9 +1,10 @@
 -- The pages as one sees them who fills a batch, and what a call leaves that only reads.
-use Rattle.std.specs.Prelude.{◌≡◌, ◌≤◌, ◌+◌, ℕ, true, false, List, length, Some, None, Result, Ok, Err, unwrap_or}
+use Rattle.std.specs.Prelude.{◌≡◌, ◌<◌, ◌≤◌, ◌+◌, ℕ, true, false, List, length, Some, None, Result, Ok, Err, unwrap_or}
 use Rattle.mg_base.specs.Disk.{Meaning}
 use Rattle.mg_base.specs.Image.{Image, blank}
 use Rattle.mg_base.specs.declared.damage.Damaged.{Damaged}
 use Rattle.mg_base.specs.declared.damage.Field.TheVariants.{Presence}
+use Rattle.mg_base.specs.declared.geometry.Geometry.{Geometry}
 use Rattle.mg_base.specs.declared.numbers.PageNo.{PageNo}
 use Rattle.mg_careful.specs.CarefulWrite.{Pages}
 use Rattle.mg_pool.specs.Batch.{Changed, content_in}
@@ -29,10 +30,10 @@ pub record Tells {D : Type 0} (m : Meaning D) (disk : D) (image : Image) : Type 
 abbrev pub viewed : {D L : Type 0} → Pool D L → Image → Changed → Pages
 viewed store image batch n = unwrap_or (content_in batch.pages n) (shown store.dirty image n)
 
--- each content of a batch is one page long
-abbrev pub AreWhole : ℕ → List BatchPage → Type 0
-AreWhole size pages =
-    (page : ℕ) (bytes : List ℕ) → content_in pages page ≡ Some bytes → length bytes ≡ size
+-- each content of a batch is one page long, and is that of a page below the page limit
+abbrev pub AreWhole : Geometry → List BatchPage → Type 0
+AreWhole g pages = (page : ℕ) (bytes : List ℕ) → content_in pages page ≡ Some bytes
+    → (length bytes ≡ g.size) × (page < g.limit)
 
 -- A call has only read: the cache has the dirty pages, their orders and their marks as before, the
 -- disk holds what it held, a crash leaves nothing new, and no page write was asked for.

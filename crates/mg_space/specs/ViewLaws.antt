@@ -1,8 +1,9 @@
 -- Laws of calls that only read, for those who make several of them.
-use Rattle.std.specs.Prelude.{◌≡◌, ◌≢◌, ◌≤◌, ◌⊎◌, ◌+◌, ◌-◌, ◌^◌, min, ℕ, true, List, length, Option, Some, Result, Ok, Err, unwrap_or}
-use Rattle.std.proofs.Common.{refl, sym, ap, ◌∙◌, arith, inl, inr}
+use Rattle.std.specs.Prelude.{◌≡◌, ◌≢◌, ◌<◌, ◌≤◌, ◌⊎◌, ◌+◌, ◌-◌, ◌^◌, min, ℕ, true, List, length, Option, Some, Result, Ok, Err, unwrap_or}
+use Rattle.std.proofs.Common.{refl, sym, ap, subst, ◌∙◌, arith, inl, inr}
 use Rattle.mg_base.specs.Disk.{MayLeave, Meaning, Rose}
 use Rattle.mg_base.specs.Image.{Image}
+use Rattle.mg_base.specs.declared.geometry.Geometry.{Geometry}
 use Rattle.mg_pool.specs.Fault.{Counts, MeetsNoFault, TellsFault}
 use Rattle.mg_pool.specs.Pool.{IsPool, KeepsContent}
 use Rattle.mg_pool.specs.declared.fault.PoolFault.{PoolFault}
@@ -112,17 +113,20 @@ pub viewed_else : {D L : Type 0} (store : Pool D L) (image : Image) (old new : C
 viewed_else store image old new page bytes puts n ne =
     ap (λ (o : Option (List ℕ)). unwrap_or o (shown store.dirty image n)) (puts.others n ne)
 
--- a batch to which a content of one page was put has contents of one page still
-pub whole_on : (size : ℕ) (old new : Changed) (page : ℕ) (bytes : List ℕ)
-    → AreWhole size old.pages → length bytes ≡ size → PutsPage old new page bytes
-    → AreWhole size new.pages
-whole_on size old new page bytes whole len puts n content is = at (cases_eq n page)
+-- a batch to which a content of one page was put, of a page below the limit, has such contents still
+pub whole_on : (g : Geometry) (old new : Changed) (page : ℕ) (bytes : List ℕ)
+    → AreWhole g old.pages → length bytes ≡ g.size → page < g.limit → PutsPage old new page bytes
+    → AreWhole g new.pages
+whole_on g old new page bytes whole len below puts n content is = at (cases_eq n page)
   where
-    at : (n ≡ page) ⊎ (n ≢ page) → length content ≡ size
+    at : (n ≡ page) ⊎ (n ≢ page) → (length content ≡ g.size) × (n < g.limit)
     at (inl same) =
         let put : Some bytes ≡ Some content = sym puts.here
         ∙ (ap (content_in new.pages) (sym same) ∙ is) in
-        let equal : bytes ≡ content = cc in ap (λ (b : List ℕ). length b) (sym equal) ∙ len
+        let equal : bytes ≡ content = cc in (
+          ap (λ (b : List ℕ). length b) (sym equal) ∙ len,
+          subst (λ (k : ℕ). k < g.limit) (sym same) below,
+        )
     at (inr ne) = whole n content (sym (puts.others n ne) ∙ is)
 
 rose_on : (a b c : ℕ) → a ≤ b → Rose b c → Rose a c

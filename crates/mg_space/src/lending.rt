@@ -1,7 +1,7 @@
 //! A page is lent to one who fills a batch: first it is made readable, then its bytes are lent.
 
 ghost use Rattle.std.specs.Bool.{OnTrue};
-ghost use Rattle.std.specs.Prelude.{◌≡◌, Some, length, IfSome, IsSome, OnOk};
+ghost use Rattle.std.specs.Prelude.{◌≡◌, ◌<◌, Some, length, IfSome, IsSome, OnOk};
 ghost use Rattle.mg_base.specs.Image.{Image};
 ghost use Rattle.mg_pool.specs.Fault.{TellsFault};
 ghost use Rattle.mg_pool.specs.Pool.{IsPool};
@@ -40,14 +40,16 @@ pub fn hold<D: Disk>(store: &mut Store<D>, batch: &Batch, page: PageNo) -> Resul
     }
 }
 
-/// The bytes of a page that was made readable, as one sees it who fills a batch.
+/// The bytes of a page that was made readable, as one sees it who fills a batch. It lies below the
+/// page limit.
 pub fn lent<'a, D: Disk>(store: &'a Store<D>, batch: &'a Batch, page: PageNo) -> &'a [u8]
     requires pool { IsPool D.meaning store.now }
-    requires whole { AreWhole store.now.geometry.size batch.now.pages }
+    requires whole { AreWhole store.now.geometry batch.now.pages }
     requires held { IsSome (readable store.now batch.now.pages page.0) }
 
     ensures read { readable store.now batch.now.pages page.0 ≡ Some result.now }
     ensures len { length result.now ≡ store.now.geometry.size }
+    ensures below { page.0 < store.now.geometry.limit }
     ensures seen { (image : Image) → Tells D.meaning store.now.disk image
         → result.now ≡ viewed store.now image batch.now page.0 }
 {

@@ -12,7 +12,7 @@
 //! After a fault the batch may have a part of the changes; the caller drops it.
 //!
 //! Invariant: none of its own; it keeps that of the cache (`IsPool`), and each content of a batch
-//! is one page long (`AreWhole`).
+//! is one page long, and that of a page below the page limit (`AreWhole`).
 //! Below: `mg_pool` for pages and batches, the crates of each kind of page, `mg_image` for what an
 //! inventory says. Above: `mg_heap`, `mg_btree` and `mg_txlist`, which change pages.
 //! Not here: which table or tree a page belongs to, and when a batch is changed.

@@ -1,6 +1,6 @@
 //! A page is read by one who fills a batch.
 
-ghost use Rattle.std.specs.Prelude.{◌≡◌, Some, length, IfOk};
+ghost use Rattle.std.specs.Prelude.{◌≡◌, ◌<◌, Some, length, IfOk, OnOk};
 ghost use Rattle.mg_base.specs.Image.{Image};
 ghost use Rattle.mg_pool.specs.Fault.{TellsFault};
 ghost use Rattle.mg_pool.specs.Pool.{IsPool};
@@ -34,7 +34,7 @@ pub fn find_page<D: Disk>(
     page: PageNo,
 ) -> Result<Found, SpaceFault>
     requires pool { IsPool D.meaning store.old }
-    requires whole { AreWhole store.old.geometry.size batch.now.pages }
+    requires whole { AreWhole store.old.geometry batch.now.pages }
 
     ensures keeps { KeepsStore D.meaning store.old store.new }
     ensures fault { TellsFault D.meaning store.old store.new (pool_answer result) }
@@ -71,12 +71,13 @@ pub fn page_of<D: Disk>(
     page: PageNo,
 ) -> Result<Bytes, SpaceFault>
     requires pool { IsPool D.meaning store.old }
-    requires whole { AreWhole store.old.geometry.size batch.now.pages }
+    requires whole { AreWhole store.old.geometry batch.now.pages }
 
     ensures keeps { KeepsStore D.meaning store.old store.new }
     ensures fault { TellsFault D.meaning store.old store.new (pool_answer result) }
     ensures refusal { RefusesRead D.meaning store.new batch.now.pages page result }
     ensures len { IfOk result (λ b. length b ≡ store.old.geometry.size) }
+    ensures below { OnOk result (page.0 < store.old.geometry.limit) }
     ensures seen { IfOk result (λ b. (image : Image) → Tells D.meaning store.old.disk image
         → b ≡ viewed store.old image batch.now page.0) }
     ensures reads { Fetches D.meaning store.old store.new page.0 }

@@ -8,13 +8,13 @@ ghost use Rattle.mg_image.specs.Inventory.{inventory_page as page_of_region};
 ghost use Rattle.mg_pip.specs.PipPage.{AllUsed, bits as bits_of_size, pip_checks};
 ghost use Rattle.mg_pool.specs.Fault.{TellsFault};
 ghost use Rattle.mg_pool.specs.Pool.{IsPool};
-ghost use Rattle.mg_space.specs.Taking.{IsGeometry, IsMarked, IsReady, IsRegionDamage, MarksFixed, PutsInventory, RefusesRegion, RefusesTake, SetsFixed, TakesBit, TakesInRegion, TakesPage};
+ghost use Rattle.mg_space.specs.Taking.{IsGeometry, IsMarked, IsReady, IsRegionDamage, MarksFixed, PutsInventory, RefusesRegion, RefusesTake, SetsFixed, TakesBit, TakesInRegion, TakesPage, taking_limit as limit_of};
 ghost use Rattle.mg_space.specs.View.{AreWhole, KeepsStore, ReadsAlone, Tells, pool_answer, viewed};
 
 use crate::fault::SpaceFault;
 use crate::links::Store;
 use crate::reading::{Found, find_page};
-use mg_base::{Damaged, Disk, Geometry, PageNo};
+use mg_base::{Damaged, Disk, GREATEST_LIMIT, Geometry, PageNo};
 use mg_pip::{BITS_AT, check_pip, first_free, new_pip, set_used};
 use mg_pool::{Batch, PoolFault};
 
@@ -37,7 +37,7 @@ pub fn inventory_page_of(size: u32, page: PageNo) -> PageNo
     PageNo(page.0 / bits * bits + 1)
 }
 
-/// Takes a page: the least free number below the limit of the file. In the batch its inventory
+/// Takes a page: the least free number below the page limit of the file, and below 131,072. In the batch its inventory
 /// page, which is made where it is blank, has its bit then, and those of the pages of its region
 /// that are never handed out. No other page is put, and no order is added.
 ///
@@ -47,13 +47,13 @@ pub fn inventory_page_of(size: u32, page: PageNo) -> PageNo
 ///
 /// # Errors
 ///
-/// `Full` exactly where no number below the limit is free; `Damaged` at the first inventory page
+/// `Full`, with the page limit, exactly where no such number is free; `Damaged` at the first inventory page
 /// that differs from what is wanted of it, before which no page is free; `Pool` with `DiskRead`,
 /// `Offline` or `Memory`. The batch is then as before.
 pub fn take_page<D: Disk>(store: &mut Store<D>, batch: &mut Batch) -> Result<PageNo, SpaceFault>
     requires pool { IsPool D.meaning store.old }
     requires geometry { IsGeometry store.old.geometry }
-    requires whole { AreWhole store.old.geometry.size batch.old.pages }
+    requires whole { AreWhole store.old.geometry batch.old.pages }
 
     ensures keeps { KeepsStore D.meaning store.old store.new }
     ensures fault { TellsFault D.meaning store.old store.new (pool_answer result) }
@@ -82,14 +82,18 @@ pub fn take_page<D: Disk>(store: &mut Store<D>, batch: &mut Batch) -> Result<Pag
 /// How many regions have their inventory page below the limit.
 fn regions_below(geometry: Geometry) -> u32
     requires { IsGeometry geometry }
-    ensures { (region : ℕ) → (region < result ↔ (page_of_region geometry.size region < geometry.limit)) }
+    ensures { (region : ℕ) → (region < result ↔ (page_of_region geometry.size region < limit_of geometry)) }
 {
     let bits = region_len(geometry.size);
-    if geometry.limit < 2 {
-        0
-    } else {
-        (geometry.limit - 2) / bits + 1
-    }
+    let limit = taking_limit(geometry);
+    if limit < 2 { 0 } else { (limit - 2) / bits + 1 }
+}
+
+/// Below which number pages are taken: the page limit of the file, and at most that of every database.
+fn taking_limit(geometry: Geometry) -> u32
+    ensures { result ≡ limit_of geometry }
+{
+    geometry.limit.min(GREATEST_LIMIT)
 }
 
 /// Takes the least free page of a region, none where it has none.
@@ -101,9 +105,9 @@ fn take_in<D: Disk>(
 ) -> Result<Option<PageNo>, SpaceFault>
     requires pool { IsPool D.meaning store.old }
     requires geometry { IsGeometry store.old.geometry }
-    requires whole { AreWhole store.old.geometry.size batch.old.pages }
+    requires whole { AreWhole store.old.geometry batch.old.pages }
     requires bits { bits ≡ bits_of_size store.old.geometry.size }
-    requires below { page_of_region store.old.geometry.size region < store.old.geometry.limit }
+    requires below { page_of_region store.old.geometry.size region < limit_of store.old.geometry }
 
     ensures keeps { KeepsStore D.meaning store.old store.new }
     ensures fault { TellsFault D.meaning store.old store.new (pool_answer result) }
@@ -122,7 +126,7 @@ fn take_in<D: Disk>(
     let at = PageNo(region * bits + 1);
     let mut page = inventory_of(store, batch, at, region)?;
     // The last region of the file may end before its inventory page's last bit.
-    let below = bits.min(geometry.limit - region * bits);
+    let below = bits.min(taking_limit(geometry) - region * bits);
     let Some(bit) = take_bit(&mut page, below) else {
         return Ok(None);
     };
@@ -153,7 +157,7 @@ fn inventory_of<D: Disk>(
 ) -> Result<Vec<u8>, SpaceFault>
     requires pool { IsPool D.meaning store.old }
     requires geometry { IsGeometry store.old.geometry }
-    requires whole { AreWhole store.old.geometry.size batch.now.pages }
+    requires whole { AreWhole store.old.geometry batch.now.pages }
     requires at { at.0 ≡ page_of_region store.old.geometry.size region }
 
     ensures keeps { KeepsStore D.meaning store.old store.new }

@@ -13,7 +13,7 @@ use Rattle.mg_image.specs.NewDatabase.{IsNewPage}
 use Rattle.mg_image.specs.Opening.{IsUnmade}
 use Rattle.mg_pool.specs.Pool.{KeepsContent}
 use Rattle.mg_space.specs.ViewLaws.{content_on, same_content}
-use Rattle.mg_survey.specs.Survey.{AreUnmadeBehind, HasPages, HasTested, IsSurveyed, IsUnmadeAt, OnlyAsks, ReadsHead, IsSameDisk, limit_of}
+use Rattle.mg_survey.specs.Survey.{AreUnmadeBehind, HasPages, HasTested, IsSurveyed, IsUnmadeAt, OnlyAsks, ReadsHead, IsSameDisk, limit_of, new_pages}
 use Rattle.mg_survey.specs.declared.survey.Survey.{Survey}
 use Rattle.mg_survey.specs.UnmadeLaws.{zero_is_unmade}
 
@@ -147,23 +147,21 @@ module _ {D : Type 0} (m : Meaning D) where
 
   -- what a disk has told
   pub surveyed : Counted m → (old mid new : D) (asked size pages : ℕ) (it : Survey) → m.size new ≡ Some size
-      → is_page_size size ≡ true → m.held mid ≡ m.held old → m.count mid ≡ Some pages
+      → is_page_size size ≡ true → m.held mid ≡ m.held old → m.count mid ≡ Some pages → m.count new ≡ Some pages
       → it.geometry.size ≡ size → it.geometry.limit ≡ limit_of asked pages
       → ((image : Image) → m.held mid ≡ Some image
       → IsTrue it.unmade ↔ IsUnmade packed_form size (page_at size image)) → IsSurveyed m old new asked it
-  surveyed counted old mid new asked size pages it sized lawful held count same limit unmade = record {
+  surveyed counted old mid new asked size pages it sized lawful held count told same limit unmade = record {
     sized = sized ∙ ap (λ (n : ℕ). Some n) (sym same);
     lawful = subst (λ (n : ℕ). is_page_size n ≡ true) (sym same) lawful;
-    most = subst (λ (n : ℕ). n ≤ GREATEST_LIMIT) (sym limit) (least asked pages);
+    within = (pages, told, subst (λ (n : ℕ). pages ≤ n) (sym limit) (omega arith));
+    room = subst (λ (n : ℕ). new_pages ≤ n) (sym limit) (omega arith);
     limit_is = λ image is. limit
         ∙ ap (limit_of asked) (sym (counted mid image pages (held ∙ is) count));
     unmade_is = λ image is. subst
         (λ (n : ℕ). IsTrue it.unmade ↔ IsUnmade packed_form n (page_at n image)) (sym same)
         (unmade image (held ∙ is));
   }
-    where
-      least : (asked pages : ℕ) → limit_of asked pages ≤ GREATEST_LIMIT
-      least asked pages = omega arith
 
 -- ---- the pages one after another
 

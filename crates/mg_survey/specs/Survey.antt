@@ -1,5 +1,5 @@
 -- What a disk is asked before it is opened, and on which a database may be made.
-use Rattle.std.specs.Prelude.{◌≡◌, ◌≢◌, ◌↔◌, ◌==◌, ◌<◌, ◌≤◌, ◌⊎◌, ℕ, zero, suc, true, List, length, min, max, Some, Result, IsErr, IsTrue, OnOk}
+use Rattle.std.specs.Prelude.{◌≡◌, ◌≢◌, ◌↔◌, ◌==◌, ◌<◌, ◌≤◌, ◌⊎◌, ℕ, zero, suc, true, List, length, max, Some, Result, IsErr, IsTrue, OnOk}
 use Rattle.mg_base.specs.Asking.{AsksReads}
 use Rattle.mg_base.specs.Disk.{Meaning, Rose}
 use Rattle.mg_base.specs.Geometry.{is_page_size}
@@ -8,7 +8,7 @@ use Rattle.mg_base.specs.declared.geometry.TheConstants.{GREATEST_LIMIT}
 use Rattle.mg_image.specs.Form.{Pages, packed_coding, packed_form}
 use Rattle.mg_image.specs.NewDatabase.{IsNewPage}
 use Rattle.mg_image.specs.Opening.{IsUnmade}
-use Rattle.mg_pool.specs.Pool.{KeepsContent}
+use Rattle.mg_pool.specs.Pool.{HasAtMost, KeepsContent}
 use Rattle.mg_survey.specs.declared.survey.Survey.{Survey}
 
 -- A disk has so many pages of this size, and has told both.
@@ -54,17 +54,22 @@ pub record HasTested {D : Type 0} (m : Meaning D) (old now : D) (size pages n : 
   pub unmade : (image : Image) → m.held old ≡ Some image → (k : ℕ) → 1 ≤ k → k < n
       → IsUnmadeAt size k (page_at size image k)
 
--- the page limit of an opening: the greater of the one that is asked for and the disk's number of pages, and at
--- most the greatest
-abbrev pub limit_of : ℕ → ℕ → ℕ
-limit_of limit pages = min (max limit pages) GREATEST_LIMIT
+-- how many pages a new database has
+abbrev pub new_pages : ℕ
+new_pages = 7
 
--- A disk was asked: its page size is known, the page limit is that of its number of pages, and a database
--- may be made on it or not.
+-- the page limit of an opening: the greatest of the one that is asked for, the disk's number of pages, and that of
+-- a new database
+abbrev pub limit_of : ℕ → ℕ → ℕ
+limit_of limit pages = max (max limit pages) new_pages
+
+-- A disk was asked: its page size is known, the page limit is that of its number of pages, which are no more, and a
+-- database may be made on it or not.
 pub record IsSurveyed {D : Type 0} (m : Meaning D) (old new : D) (limit : ℕ) (it : Survey) : Type 0 where
   pub sized : m.size new ≡ Some it.geometry.size
   pub lawful : is_page_size it.geometry.size ≡ true
-  pub most : it.geometry.limit ≤ GREATEST_LIMIT
+  pub within : HasAtMost m new it.geometry.limit
+  pub room : new_pages ≤ it.geometry.limit
   pub limit_is : (image : Image) → m.held old ≡ Some image
       → it.geometry.limit ≡ limit_of limit (length image)
   pub unmade_is : (image : Image) → m.held old ≡ Some image

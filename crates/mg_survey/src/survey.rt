@@ -4,7 +4,10 @@ ghost use Rattle.std.specs.Prelude.{IfOk};
 ghost use Rattle.mg_survey.specs.Survey.{IsSurveyed, OnlyAsks, ReadsHead, IsSameDisk};
 
 use crate::disk::is_unmade;
-use mg_base::{Disk, DiskFault, GREATEST_LIMIT, Geometry};
+use mg_base::{Disk, DiskFault, Geometry};
+
+/// How many pages a new database has.
+const NEW_PAGES: u32 = 7;
 
 /// What a disk has told.
 #[derive(Clone, Copy, Debug, PartialEq, Eq)]
@@ -16,7 +19,7 @@ pub struct Survey {
 }
 
 /// Asks a disk for its page size and its number of pages, and whether a database may be made on it. The page
-/// limit is the greater of `limit` and the number of pages, and at most the greatest.
+/// limit is the greatest of `limit`, the number of pages, and that of a new database.
 ///
 /// # Errors
 ///
@@ -39,7 +42,7 @@ pub fn ask<D: Disk>(disk: &mut D, limit: u32) -> Result<Survey, DiskFault>
         Ok(unmade) => unmade,
         Err(fault) => return Err(fault),
     };
-    let limit = limit.max(pages).min(GREATEST_LIMIT);
+    let limit = limit.max(pages).max(NEW_PAGES);
     Ok(Survey {
         geometry: Geometry { size, limit },
         unmade,

@@ -86,8 +86,8 @@ pub nothing_left : (rows : List Row) → length rows ≡ 0 → rows ≡ []
 nothing_left [] none = refl
 nothing_left (row ∷ rows) none = absurd (omega (arith, none))
 
-pub whole_as : (b a : Geometry) (pages : List BatchPage) → b ≡ a → AreWhole b.size pages → AreWhole a.size pages
-whole_as b a pages same whole = subst (λ (g : Geometry). AreWhole g.size pages) same whole
+pub whole_as : (b a : Geometry) (pages : List BatchPage) → b ≡ a → AreWhole b pages → AreWhole a pages
+whole_as b a pages same whole = subst (λ (g : Geometry). AreWhole g pages) same whole
 
 -- ---- the rows of a table
 

@@ -38,7 +38,7 @@ pub(crate) fn fill<D: Disk>(
 ) -> Result<(), SpaceFault>
     requires pool { IsPool D.meaning store.old }
     requires geometry { IsGeometry store.old.geometry }
-    requires whole { AreWhole store.old.geometry.size batch.old.pages }
+    requires whole { AreWhole store.old.geometry batch.old.pages }
     requires owner { catalog.now.pointer.0 < GREATEST_LIMIT }
     requires some { catalog.now.pointer.0 ≢ 0 }
     requires columns { length shape.now.columns ≤ MOST_COLUMNS }
@@ -46,6 +46,7 @@ pub(crate) fn fill<D: Disk>(
     ensures keeps { KeepsStore D.meaning store.old store.new }
     ensures fault { TellsFault D.meaning store.old store.new (pool_answer result) }
     ensures own { ReadsAlone result }
+    ensures whole { OnOk result (AreWhole store.old.geometry batch.new.pages) }
     ensures fills { (image : Image) → Tells D.meaning store.old.disk image → MatchResult result
         (λ _. FillsTable store.old image catalog.now t.0 name.now shape.now batch.old batch.new)
         (RefusesTable D.meaning store.old store.new image catalog.now t.0 name.now shape.now batch.old) }
@@ -71,7 +72,7 @@ fn put_table<D: Disk>(
     requires pool { IsPool D.meaning store.old }
     requires geometry { IsGeometry store.old.geometry }
     requires online { store.old.offline ≡ None }
-    requires whole { AreWhole store.old.geometry.size batch.old.pages }
+    requires whole { AreWhole store.old.geometry batch.old.pages }
     requires owner { catalog.now.pointer.0 < GREATEST_LIMIT }
     requires some { catalog.now.pointer.0 ≢ 0 }
     requires page { page.0 < 2 ^ 31 }
@@ -79,6 +80,7 @@ fn put_table<D: Disk>(
     ensures keeps { KeepsStore D.meaning store.old store.new }
     ensures fault { TellsFault D.meaning store.old store.new (pool_answer result) }
     ensures own { ReadsAlone result }
+    ensures whole { OnOk result (AreWhole store.old.geometry batch.new.pages) }
     ensures puts { (image : Image) → Tells D.meaning store.old.disk image → MatchResult result
         (λ _. PutsTable store.old image catalog.now t.0 rows.now page.0 batch.old batch.new)
         (RefusesRowsOf D.meaning store.old store.new image catalog.now t.0 batch.old rows.now) }
@@ -106,7 +108,7 @@ fn put_naming<D: Disk>(
     requires pool { IsPool D.meaning store.old }
     requires geometry { IsGeometry store.old.geometry }
     requires online { store.old.offline ≡ None }
-    requires whole { AreWhole store.old.geometry.size batch.old.pages }
+    requires whole { AreWhole store.old.geometry batch.old.pages }
     requires owner { catalog.now.pointer.0 < GREATEST_LIMIT }
     requires some { catalog.now.pointer.0 ≢ 0 }
     requires page { page.0 < 2 ^ 31 }
@@ -114,7 +116,7 @@ fn put_naming<D: Disk>(
     ensures keeps { KeepsStore D.meaning store.old store.new }
     ensures fault { TellsFault D.meaning store.old store.new (pool_answer result) }
     ensures own { ReadsAlone result }
-    ensures whole { OnOk result (AreWhole store.old.geometry.size batch.new.pages) }
+    ensures whole { OnOk result (AreWhole store.old.geometry batch.new.pages) }
     ensures puts { (image : Image) → Tells D.meaning store.old.disk image → MatchResult result
         (λ _. PutsNaming store.old image catalog.now t.0 batch.old batch.new row.now page.0)
         (RefusesNaming D.meaning store.old store.new image catalog.now t.0 batch.old row.now) }

@@ -26,12 +26,12 @@ pub(crate) fn take_first<D: Disk>(
 ) -> Result<PageNo, SpaceFault>
     requires pool { IsPool D.meaning store.old }
     requires geometry { IsGeometry store.old.geometry }
-    requires whole { AreWhole store.old.geometry.size batch.old.pages }
+    requires whole { AreWhole store.old.geometry batch.old.pages }
 
     ensures keeps { KeepsStore D.meaning store.old store.new }
     ensures fault { TellsFault D.meaning store.old store.new (pool_answer result) }
     ensures own { ReadsAlone result }
-    ensures whole { OnOk result (AreWhole store.old.geometry.size batch.new.pages) }
+    ensures whole { OnOk result (AreWhole store.old.geometry batch.new.pages) }
     ensures below { IfOk result (λ page. page.0 < GREATEST_LIMIT) }
     ensures takes { (image : Image) → Tells D.meaning store.old.disk image → MatchResult result
         (λ page. TakesFirst store.old image batch.old batch.new page.0)

@@ -1,7 +1,7 @@
 //! The catalog gets a data page, and a lawful batch is changed.
 
 ghost use Rattle.std.specs.Prelude.{◌≡◌, ◌≢◌, ◌<◌, MatchResult};
-ghost use Rattle.mg_pool.specs.Batch.{IsLawful};
+ghost use Rattle.mg_pool.specs.Batch.{AreBelow, IsLawful};
 ghost use Rattle.mg_pool.specs.Pool.{IsPool};
 ghost use Rattle.mg_row_writes.specs.Changing.{ChangesBatch, FailsBatch};
 ghost use Rattle.mg_space.specs.Taking.{IsGeometry};
@@ -36,10 +36,11 @@ pub(crate) fn grow<D: Disk>(store: &mut Store<D>, owner: PageNo) -> Result<(), S
     change_batch(store, batch)
 }
 
-/// Has the cache change a lawful batch.
+/// Has the cache change a lawful batch of pages below the page limit.
 pub(crate) fn change_lawful<D: Disk>(store: &mut Store<D>, batch: Batch) -> Result<(), SpaceFault>
     requires pool { IsPool D.meaning store.old }
     requires lawful { IsLawful store.old.geometry.size batch.pages batch.orders }
+    requires below { AreBelow store.old.geometry.limit batch.pages }
 
     ensures pool { IsPool D.meaning store.new }
     ensures geometry { store.new.geometry ≡ store.old.geometry }

@@ -38,14 +38,14 @@ pub(crate) fn put_row<D: Disk>(
     requires pool { IsPool D.meaning store.old }
     requires geometry { IsGeometry store.old.geometry }
     requires online { store.old.offline ≡ None }
-    requires whole { AreWhole store.old.geometry.size batch.old.pages }
+    requires whole { AreWhole store.old.geometry batch.old.pages }
     requires owner { catalog.now.pointer.0 < GREATEST_LIMIT }
     requires some { catalog.now.pointer.0 ≢ 0 }
 
     ensures keeps { KeepsStore D.meaning store.old store.new }
     ensures fault { TellsFault D.meaning store.old store.new (pool_answer result) }
     ensures own { ReadsAlone result }
-    ensures whole { OnOk result (AreWhole store.old.geometry.size batch.new.pages) }
+    ensures whole { OnOk result (AreWhole store.old.geometry batch.new.pages) }
     ensures puts { (image : Image) → Tells D.meaning store.old.disk image → MatchResult result
         (PutsRow store.old image catalog.now t.0 batch.old batch.new row.now)
         (RefusesRow D.meaning store.old store.new image catalog.now t.0 batch.old row.now) }
@@ -124,14 +124,14 @@ pub(crate) fn put_rows<D: Disk>(
     requires pool { IsPool D.meaning store.old }
     requires geometry { IsGeometry store.old.geometry }
     requires online { store.old.offline ≡ None }
-    requires whole { AreWhole store.old.geometry.size batch.old.pages }
+    requires whole { AreWhole store.old.geometry batch.old.pages }
     requires owner { catalog.now.pointer.0 < GREATEST_LIMIT }
     requires some { catalog.now.pointer.0 ≢ 0 }
 
     ensures keeps { KeepsStore D.meaning store.old store.new }
     ensures fault { TellsFault D.meaning store.old store.new (pool_answer result) }
     ensures own { ReadsAlone result }
-    ensures whole { OnOk result (AreWhole store.old.geometry.size batch.new.pages) }
+    ensures whole { OnOk result (AreWhole store.old.geometry batch.new.pages) }
     ensures puts { (image : Image) → Tells D.meaning store.old.disk image → MatchResult result
         (λ _. PutsRows store.old image catalog.now t.0 rows.now batch.old batch.new)
         (λ fault. RefusesRows D.meaning store.new image catalog.now t.0 fault rows.now store.old batch.old) }

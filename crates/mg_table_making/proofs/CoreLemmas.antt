@@ -22,6 +22,7 @@ use Rattle.mg_space.specs.declared.fault.SpaceFault.TheVariants as faults
 use Rattle.mg_space.specs.declared.links.FireLinks.{FireLinks}
 use Rattle.mg_works.specs.Works.{Working, with_work, work_of}
 use Rattle.mg_works.specs.WorksLaws.{with_its, with_none, with_others}
+use Rattle.mg_txlist.specs.TipLaws.{tips_by}
 
 -- a refusal that a call met is handed on
 pub refused_on : {T : Type 0} (result : Result T Refusal) (refusal : Refusal) (P : T → Type 0)
@@ -62,6 +63,7 @@ core_on {D} m old new store waits works damage shortages is pool geometry active
       geometry = subst IsGeometry (sym geometry) is.geometry;
       list = is.list;
       size = is.size ∙ ap (λ (g : Geometry). g.size) (sym geometry);
+      tips = tips_by old.store.geometry store.geometry old.list geometry is.tips;
       catalog = is.catalog;
       next = is.next;
       drawn = is.drawn;

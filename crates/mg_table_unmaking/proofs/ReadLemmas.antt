@@ -23,8 +23,8 @@ pub handed_on : {T : Type 0} (result : Result T SpaceFault) (fault : SpaceFault)
 handed_on (Ok x) fault P Q err is holds = absurd cc
 handed_on (Err e) fault P Q err is holds = subst Q (sym is) holds
 
-pub whole_as : (b a : Geometry) (pages : List BatchPage) → b ≡ a → AreWhole b.size pages → AreWhole a.size pages
-whole_as b a pages same whole = subst (λ (g : Geometry). AreWhole g.size pages) same whole
+pub whole_as : (b a : Geometry) (pages : List BatchPage) → b ≡ a → AreWhole b pages → AreWhole a pages
+whole_as b a pages same whole = subst (λ (g : Geometry). AreWhole g pages) same whole
 
 -- what is seen once pages were read was seen before
 pub as_before : {D L : Type 0} (m : Meaning D) (a b : Pool D L) (image : Image) (batch : Changed)

@@ -46,7 +46,7 @@ fn alone_at<D: Disk, S: States>(
 ) -> Result<RecId, SpaceFault>
     requires pool { IsPool D.meaning store.old }
     requires geometry { IsGeometry store.old.geometry }
-    requires whole { AreWhole store.old.geometry.size batch.now.pages }
+    requires whole { AreWhole store.old.geometry batch.now.pages }
     requires columns { length table.now.shape.columns ≤ MOST_COLUMNS }
     requires pointer { table.now.pointer.0 < GREATEST_LIMIT }
 
@@ -85,14 +85,14 @@ fn take_row<D: Disk, S: States>(
 ) -> Result<(), SpaceFault>
     requires pool { IsPool D.meaning store.old }
     requires geometry { IsGeometry store.old.geometry }
-    requires whole { AreWhole store.old.geometry.size batch.old.pages }
+    requires whole { AreWhole store.old.geometry batch.old.pages }
     requires columns { length table.now.shape.columns ≤ MOST_COLUMNS }
     requires pointer { table.now.pointer.0 < GREATEST_LIMIT }
 
     ensures keeps { KeepsStore D.meaning store.old store.new }
     ensures fault { TellsFault D.meaning store.old store.new (pool_answer result) }
     ensures own { ReadsData result }
-    ensures whole { AreWhole store.old.geometry.size batch.new.pages }
+    ensures whole { AreWhole store.old.geometry batch.new.pages }
     ensures takes { (image : Image) → Tells D.meaning store.old.disk image → MatchResult result
         (λ _. TakesRow store.old image (S.state_of states.now) live.now t.0 table.now key.now batch.old batch.new)
         (RefusesRow D.meaning store.old store.new image (S.state_of states.now) live.now t.0 table.now key.now

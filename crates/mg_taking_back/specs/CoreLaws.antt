@@ -12,7 +12,7 @@ use Rattle.mg_snap.specs.Live.{State as Bases, after_leave, without}
 use Rattle.mg_snap.specs.LiveLaws.{drawn_after_drop}
 use Rattle.mg_space.specs.Taking.{IsGeometry}
 use Rattle.mg_space.specs.declared.links.FireLinks.{FireLinks}
-use Rattle.mg_txlist.specs.TxList.{EndsIn, IsTxList, said}
+use Rattle.mg_txlist.specs.TxList.{EndsIn, IsTxList, TipsAreBelow, said}
 use Rattle.mg_txlist.specs.declared.list.TxList.{TxList}
 use Rattle.mg_undo.specs.Undo.{State as Undo}
 use Rattle.mg_works.specs.Works.{MayBeGiven, Working, unasked, with_undo, with_work, with_written, without_tables, without_work, work_of}
@@ -20,6 +20,7 @@ use Rattle.mg_works.specs.WorksLaws.{with_its, with_none, with_others, without_i
 use Rattle.mg_core.specs.declared.parts.Core.{Core}
 use Rattle.mg_core.specs.Cores.{IsCatalog, IsCore}
 use Rattle.mg_taking_back.specs.Noting.{noted, noted_if}
+use Rattle.mg_txlist.specs.TipLaws.{tips_by}
 
 -- another cache over the same geometry, works of the same transactions, and other counts
 pub core_on : {D : Type 0} (m : Meaning D) (old new : Core D) (store : Pool D FireLinks) (works : List Working)
@@ -32,6 +33,7 @@ core_on {D} m old new store works damage shortages is pool geometry active same 
       geometry = subst IsGeometry (sym geometry) is.geometry;
       list = is.list;
       size = is.size ∙ ap (λ (g : Geometry). g.size) (sym geometry);
+      tips = tips_by old.store.geometry store.geometry old.list geometry is.tips;
       catalog = is.catalog;
       next = is.next;
       drawn = is.drawn;
@@ -109,7 +111,8 @@ catalog_given table is = record {
 
 -- a transaction has ended, and its work and its base are gone
 module _ {D : Type 0} (m : Meaning D) (core : Core D) (t : ℕ) (list : TxList) (works : List Working) (bases : Bases)
-    (is : IsCore m core) (list_is : IsTxList list) (ends : EndsIn core.list list t Dead) where
+    (is : IsCore m core) (list_is : IsTxList list) (tips : TipsAreBelow core.store.geometry.limit list)
+    (ends : EndsIn core.list list t Dead) where
   not_active : Dead ≢ Active
   not_active same = absurd cc
 
@@ -132,6 +135,7 @@ module _ {D : Type 0} (m : Meaning D) (core : Core D) (t : ℕ) (list : TxList) 
     geometry = is.geometry;
     list = list_is;
     size = ends.size ∙ is.size;
+    tips = tips;
     catalog = is.catalog;
     next = is.next ∙ sym ends.next;
     drawn = drawn_after_drop core.live.next t core.live.entered (without t core.live.entered) refl is.drawn;

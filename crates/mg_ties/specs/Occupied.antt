@@ -56,7 +56,7 @@ taken_are_occupied g old taken view next n lawful takes follows = record {
       ∙ takes_keeps g old taken n lawful takes m (sym (same_bits g.size view old follows.before m) ∙ is);
   fresh = same_bits g.size view old follows.before n ∙ takes.free.unused;
   bit = same_bits g.size next taken follows.after n ∙ takes_bit g old taken n lawful takes;
-  below = let below = takes.free.below in let most = lawful.limit in omega arith;
+  below = let below = takes.free.below in omega (arith, below);
   no_region = takes.free.no_inventory;
 }
   where

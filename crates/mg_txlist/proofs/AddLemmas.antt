@@ -1,6 +1,7 @@
 -- The list with one number more.
 use Rattle.std.proofs.Common.{◌≡◌, ◌≢◌, ◌<◌, ◌≤◌, ◌⊎◌, ◌+◌, ◌-◌, ◌/◌, ◌%◌, ◌++◌, ℕ, true, List, [], ◌∷◌, length, take, refl, sym, ap, subst, ◌∙◌, arith, inl, inr, get_or}
 use Rattle.std.proofs.Common.{Option, Some, None, ◌*◌, suc, zero}
+use Rattle.std.specs.Prelude.{IfSome}
 use Rattle.std.proofs.Math.Nat.{mod-add-div', mod-lt, suc-mul, zero-mul}
 use Rattle.std.proofs.Math.Seq.{take-append_seam}
 use Rattle.std.proofs.lemmas.Nat.{div-mul-add}
@@ -14,7 +15,7 @@ use Rattle.mg_image.specs.Inventory.{settled}
 use Rattle.mg_space.specs.TakingLaws.{page_sizes}
 use Rattle.mg_tip.specs.TipPage.{places, state_in}
 use Rattle.mg_txlist.specs.Drawing.{AddsNumber, AddsPage, IsTipFor, SaysSame}
-use Rattle.mg_txlist.specs.TxList.{IsTxList, bits_said, next_said, no_page, own_said, said, tip_in}
+use Rattle.mg_txlist.specs.TxList.{IsTxList, TipsAreBelow, bits_said, next_said, no_page, own_said, said, tip_in}
 use Rattle.mg_txlist.specs.declared.list.TipPage.{TipPage}
 use Rattle.mg_txlist.specs.declared.list.TxList.{TxList}
 use Rattle.mg_txlist.proofs.ListLemmas.{page_there, said_old, said_own, said_zero}
@@ -196,6 +197,12 @@ each_tip old new (Some page) P adds each last s inside = at (cases_lt s (length 
     at : (s < length old.pages.items) ⊎ (length old.pages.items ≤ s) → P (tip_in new s)
     at (inl less) = subst P (sym (tips_stay old new (Some page) adds s less)) (each s less)
     at (inr past) = subst P (sym (here past)) (last page refl)
+
+-- its pages lie below the limit
+pub adds_below : (old new : TxList) (page : Option TipPage) (limit : ℕ) → AddsPage old new page
+    → IfSome page (λ tip. tip.page < limit) → TipsAreBelow limit old → TipsAreBelow limit new
+adds_below old new page limit adds tip each = each_tip old new page (λ (x : TipPage). x.page < limit) adds each
+    (λ x here. subst (λ (p : Option TipPage). IfSome p (λ tip. tip.page < limit)) here tip)
 
 tip_given : (size t : ℕ) (page : Option TipPage) (x : TipPage) → IsTipFor size t page → page ≡ Some x
     → IsTipFor size t (Some x)

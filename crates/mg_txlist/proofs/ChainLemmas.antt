@@ -44,11 +44,18 @@ read_more pages whole items at count k page less is number content =
         ∙ ap (λ (b : List ℕ). record { page = page.page; bytes = b }) (sym content)
 
 -- each page of a list is one page long
-pub whole_at : (size : ℕ) (items : List TipPage) (d : TipPage) → AreWholePages size items
-    → (s : ℕ) → s < length items → length (get_or items s d).bytes ≡ size
-whole_at size [] d whole s inside = absurd (omega arith)
-whole_at size (x ∷ xs) d whole zero inside = whole.0
-whole_at size (x ∷ xs) d whole (suc s) inside = whole_at size xs d whole.1 s (omega arith)
+pub whole_at : (g : Geometry) (items : List TipPage) (d : TipPage) → AreWholePages g items
+    → (s : ℕ) → s < length items → length (get_or items s d).bytes ≡ g.size
+whole_at g [] d whole s inside = absurd (omega arith)
+whole_at g (x ∷ xs) d whole zero inside = whole.0
+whole_at g (x ∷ xs) d whole (suc s) inside = whole_at g xs d whole.2 s (omega arith)
+
+-- and lies below the limit
+pub below_at : (g : Geometry) (items : List TipPage) (d : TipPage) → AreWholePages g items
+    → (s : ℕ) → s < length items → (get_or items s d).page < g.limit
+below_at g [] d whole s inside = absurd (omega arith)
+below_at g (x ∷ xs) d whole zero inside = whole.1
+below_at g (x ∷ xs) d whole (suc s) inside = below_at g xs d whole.2 s (omega arith)
 
 -- a page that was tested
 pub tested_page : (at : PageNo) (sequence : ℕ) (seen bytes : List ℕ)
@@ -81,11 +88,15 @@ next_least oit ost oat next are =
 -- ---- one page more, in the words of the program
 
 pub read_whole : (mid start : Geometry) (page : TipPage) (items more : List TipPage)
-    → mid ≡ start → length page.bytes ≡ mid.size → AreWholePages start.size items
-    → more ≡ page ∷ items → AreWholePages start.size more
-read_whole mid start page items more same len whole is =
-    subst (λ (xs : List TipPage). AreWholePages start.size xs) (sym is)
-    (len ∙ ap (λ (x : Geometry). x.size) same, whole)
+    (at : ℕ) → mid ≡ start → length page.bytes ≡ mid.size → page.page ≡ at → at < mid.limit
+    → AreWholePages start items → more ≡ page ∷ items → AreWholePages start more
+read_whole mid start page items more at same len number below whole is =
+    subst (λ (xs : List TipPage). AreWholePages start xs) (sym is) (
+      len ∙ ap (λ (x : Geometry). x.size) same,
+      subst (λ (n : ℕ). n < start.limit) (sym number)
+          (subst (λ (x : Geometry). at < x.limit) same below),
+      whole,
+    )
 
 pub read_tested : (count k : ℕ) (page : TipPage) (items more : List TipPage) → k < count
     → IsTipOf (count - k - 1) page → AreTested (count - k) items → more ≡ page ∷ items

@@ -24,6 +24,7 @@ use Rattle.mg_pool.specs.declared.batch.BatchPage.{BatchPage}
 use Rattle.mg_pool.specs.declared.pool.Pool.{Pool}
 use Rattle.mg_space.specs.Taking.{TakesPage, region_of}
 use Rattle.mg_space.specs.View.{AreWhole, KeepsStore, Tells, viewed}
+use Rattle.mg_space.specs.BelowLaws.{taken_below}
 use Rattle.mg_space.specs.ViewLaws.{tells_on, viewed_else, viewed_here, viewed_on, whole_on}
 use Rattle.mg_tip.specs.TipPage.{new_tip_page, places}
 use Rattle.mg_tip.specs.TipPageLaws.{length-new_tip_page}
@@ -167,8 +168,8 @@ orders_made size at inventory last a b c d e f taken put first second is behind 
 
 -- ---- the batch
 
-pub empty_whole : (size : ℕ) (pages : List BatchPage) → pages ≡ [] → AreWhole size pages
-empty_whole size pages none page bytes is =
+pub empty_whole : (g : Geometry) (pages : List BatchPage) → pages ≡ [] → AreWhole g pages
+empty_whole g pages none page bytes is =
     let no : None ≡ Some bytes = sym (ap (λ (xs : List BatchPage). content_in xs page) none) ∙ is in
     absurd cc
 
@@ -217,27 +218,36 @@ later_there pages page a b head there (inr is) = subst (λ (n : ℕ). is_in page
 head_there : (size : ℕ) (old new : Changed) → PutsHead size old new → is_in new.pages 0 ≡ true
 head_there size old new puts = ap (λ (o : Option (List ℕ)). is_some o) puts.puts.here
 
-lawful_of : (size page : ℕ) (old new : Changed) → length old.pages ≤ 2 → AreWhole size old.pages
-    → PutsHead size old new → is_in new.pages page ≡ true → AllLead page new.orders
-    → IsLawful size new.pages new.orders
-lawful_of size page old new few whole puts there before = record {
+lawful_of : (g : Geometry) (page : ℕ) (old new : Changed) → length old.pages ≤ 2 → AreWhole g new.pages
+    → PutsHead g.size old new → is_in new.pages page ≡ true → AllLead page new.orders
+    → IsLawful g.size new.pages new.orders
+lawful_of g page old new few whole puts there before = record {
   few = let most = one_more old new 0 puts.bytes puts.puts in omega (arith, few, most);
-  whole = whole_on size old new 0 puts.bytes whole puts.len puts.puts;
+  whole = λ n content is. (whole n content is).0;
   acyclic = λ p chain. no_way_back page p (ends page new.orders before p p chain);
-  later_in = λ a b is. later_there new.pages page a b (head_there size old new puts) there (before a b is);
+  later_in = λ a b is. later_there new.pages page a b (head_there g.size old new puts) there (before a b is);
 }
+
+-- the header page is one of the pages that a database may have
+head_whole : (g : Geometry) (old new : Changed) → AreWhole g old.pages → 0 < g.limit
+    → PutsHead g.size old new → AreWhole g new.pages
+head_whole g old new whole some puts = whole_on g old new 0 puts.bytes whole puts.len some puts.puts
 
 none_before : (page : ℕ) (orders : List Order) → orders ≡ [] → AllLead page orders
 none_before page orders none a b is =
     let no : false ≡ true = sym (ap (λ (os : List Order). lists os a b) none) ∙ is in absurd cc
 
-pub lawful_last : (size : ℕ) (old new : Changed) → old.pages ≡ [] → old.orders ≡ []
-    → PutsHead size old new → IsLawful size new.pages new.orders
-lawful_last size old new none unordered puts =
-    lawful_of size 0 old new
-    (let long : length old.pages ≡ 0 = ap (λ (xs : List BatchPage). length xs) none in
-    omega (arith, long)) (empty_whole size old.pages none) puts (head_there size old new puts)
-    (none_before 0 new.orders (puts.puts.same_orders ∙ unordered))
+module _ (g : Geometry) (old new : Changed) (none : old.pages ≡ []) (some : 0 < g.limit)
+    (puts : PutsHead g.size old new) where
+  pub whole_last : AreWhole g new.pages
+  whole_last = head_whole g old new (empty_whole g old.pages none) some puts
+
+  pub lawful_last : old.orders ≡ [] → IsLawful g.size new.pages new.orders
+  lawful_last unordered =
+      lawful_of g 0 old new
+      (let long : length old.pages ≡ 0 = ap (λ (xs : List BatchPage). length xs) none in
+      omega (arith, long)) whole_last puts (head_there g.size old new puts)
+      (none_before 0 new.orders (puts.puts.same_orders ∙ unordered))
 
 head_order : (x a b : ℕ) → x ≢ 0 → (x == a && 0 == b) ≡ true → (b ≡ 0) × (a ≢ 0)
 head_order x a b some is =
@@ -310,12 +320,13 @@ module _ {D L : Type 0} (m : Meaning D) (store : Pool D L) (old new : Changed) (
   tip_len = ap (λ (b : List ℕ). length b) tip.bytes_are
       ∙ length-new_tip_page size page.page (t / places size) last
 
-  pub tip_whole : old.pages ≡ [] → AreWhole size new.pages
-  tip_whole none = subst (λ (xs : List BatchPage). AreWhole size xs) (sym tip.pages)
-      (whole_on size tip.taken tip.put page.page page.bytes
-      (whole_on size old tip.taken (inventory_page size (region_of size page.page))
-      tip.inventory.bytes (empty_whole size old.pages none) tip.inventory.len tip.inventory.puts)
-      tip_len tip.puts)
+  pub tip_whole : old.pages ≡ [] → AreWhole store.geometry new.pages
+  tip_whole none = subst (λ (xs : List BatchPage). AreWhole store.geometry xs) (sym tip.pages)
+      (whole_on store.geometry tip.taken tip.put page.page page.bytes
+      (whole_on store.geometry old tip.taken (inventory_page size (region_of size page.page))
+      tip.inventory.bytes (empty_whole store.geometry old.pages none) tip.inventory.len
+      (taken_below store.geometry _ tip.inventory.region) tip.inventory.puts) tip_len
+      (taken_below store.geometry page.page tip.inventory.below) tip.puts)
 
   tip_few : old.pages ≡ [] → length new.pages ≤ 2
   tip_few none =
@@ -335,10 +346,14 @@ module _ {D L : Type 0} (m : Meaning D) (store : Pool D L) (old new : Changed) (
       (puts.puts.others page.page tip.inventory.no_header
       ∙ (ap (λ (xs : List BatchPage). content_in xs page.page) tip.pages ∙ tip.puts.here))
 
-  pub lawful_new : (last_ : Changed) → old.pages ≡ [] → old.orders ≡ [] → PutsHead size new last_
-      → IsLawful size last_.pages last_.orders
-  lawful_new last_ none unordered puts = lawful_of size page.page new last_ (tip_few none) (tip_whole none)
-      puts (page_there last_ puts) (subst (λ (os : List Order). AllLead page.page os)
+  pub whole_new : (last_ : Changed) → old.pages ≡ [] → 0 < store.geometry.limit → PutsHead size new last_
+      → AreWhole store.geometry last_.pages
+  whole_new last_ none some puts = head_whole store.geometry new last_ (tip_whole none) some puts
+
+  pub lawful_new : (last_ : Changed) → old.pages ≡ [] → old.orders ≡ [] → 0 < store.geometry.limit
+      → PutsHead size new last_ → IsLawful size last_.pages last_.orders
+  lawful_new last_ none unordered some puts = lawful_of store.geometry page.page new last_ (tip_few none)
+      (whole_new last_ none some puts) puts (page_there last_ puts) (subst (λ (os : List Order). AllLead page.page os)
       (sym (puts.puts.same_orders ∙ tip_orders_are unordered))
       (tip_leads size page.page last tip.inventory.no_header tip.inventory.no_inventory))
 

@@ -12,7 +12,7 @@ use Rattle.mg_image.specs.Inventory.{settled}
 use Rattle.mg_tip.specs.TipPage.{SetsState, places, state_in}
 use Rattle.mg_txlist.specs.declared.list.TipPage.{TipPage}
 use Rattle.mg_txlist.specs.declared.list.TxList.{TxList}
-use Rattle.mg_txlist.specs.TxList.{EndsIn, IsTxList, KeepsBits, bits_said, next_said, no_page, own_said, said, tip_in}
+use Rattle.mg_txlist.specs.TxList.{EndsIn, IsTxList, KeepsBits, TipsAreBelow, bits_said, next_said, no_page, own_said, said, tip_in}
 use Rattle.mg_space.specs.TakingLaws.{page_sizes}
 use Rattle.mg_txlist.proofs.ListLemmas.{page_there, said_old, said_own, said_zero}
 
@@ -143,6 +143,13 @@ pages_stay old new s bytes keeps k = at (cases_eq k s)
         ∙ (ap (λ (page : TipPage). page.page) keeps.here
         ∙ ap (λ (n : ℕ). (tip_in old n).page) (sym same))
     at (inr ne) = ap (λ (page : TipPage). page.page) (keeps.others k ne)
+
+-- each lies below the limit still
+pub kept_below : (old new : TxList) (s : ℕ) (bytes : List ℕ) (limit : ℕ) → KeepsBits old new s bytes
+    → TipsAreBelow limit old → TipsAreBelow limit new
+kept_below old new s bytes limit keeps each k inside =
+    subst (λ (n : ℕ). n < limit) (sym (pages_stay old new s bytes keeps k))
+    (each k (subst (λ (n : ℕ). k < n) keeps.count inside))
 
 -- the list is one still
 kept_list : (old new : TxList) (s : ℕ) (bytes : List ℕ) → IsTxList old → KeepsBits old new s bytes

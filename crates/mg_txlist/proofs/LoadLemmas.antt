@@ -1,5 +1,6 @@
 -- The list that was loaded.
-use Rattle.std.proofs.Common.{◌≡◌, ◌≤◌, ◌+◌, ◌-◌, ◌/◌, ℕ, true, List, [], Ok, length, sym, ap, subst, ◌∙◌, arith}
+use Rattle.std.proofs.Common.{◌≡◌, ◌<◌, ◌≤◌, ◌+◌, ◌-◌, ◌/◌, ℕ, true, List, [], Ok, length, sym, ap, subst, ◌∙◌, arith}
+use Rattle.std.specs.Prelude.{slice_index_or}
 use Rattle.mg_base.specs.Disk.{Meaning}
 use Rattle.mg_base.specs.Geometry.{is_page_size}
 use Rattle.mg_base.specs.Image.{Image}
@@ -18,13 +19,13 @@ use Rattle.mg_tip.specs.TipPage.{places}
 use Rattle.mg_txlist.specs.declared.list.TipPage.{TipPage}
 use Rattle.mg_txlist.specs.declared.list.TxList.{TxList}
 use Rattle.mg_txlist.specs.Chain.{AreTested, AreWholePages, HasHead, tips_below}
-use Rattle.mg_txlist.specs.TxList.{IsTxList, next_said, no_page}
-use Rattle.mg_txlist.proofs.ChainLemmas.{apart_at, whole_at}
+use Rattle.mg_txlist.specs.TxList.{EachBelow, IsTxList, next_said, no_page, tip_in}
+use Rattle.mg_txlist.proofs.ChainLemmas.{apart_at, below_at, whole_at}
 
 pub list_made : (list : TxList) (g mid made : Geometry) (next k : ℕ) → IsGeometry g → mid ≡ g
     → made ≡ mid → list.size ≡ made.size → list.first ≡ next → k ≡ places made.size
     → 1 ≤ next → next ≤ GREATEST_NEXT → list.own.items ≡ []
-    → length list.pages.items ≡ (next - 1) / k + 1 → AreWholePages mid.size list.pages.items
+    → length list.pages.items ≡ (next - 1) / k + 1 → AreWholePages mid list.pages.items
     → AreTested 0 list.pages.items → IsTxList list
 list_made list g mid made next k lawful mid_is made_is size first k_is some most own count whole
     tested =
@@ -35,7 +36,7 @@ list_made list g mid made next k lawful mid_is made_is size first k_is some most
       most = subst (λ (n : ℕ). n ≤ GREATEST_NEXT) (sym next_is) most;
       count = count ∙ (ap (λ (n : ℕ). (next - 1) / n + 1) (k_is ∙ ap places (sym size))
           ∙ ap (λ (n : ℕ). (n - 1) / places list.size + 1) (sym next_is));
-      whole = λ s inside. whole_at mid.size list.pages.items no_page whole s inside
+      whole = λ s inside. whole_at mid list.pages.items no_page whole s inside
           ∙ (ap (λ (x : Geometry). x.size) (sym made_is) ∙ sym size);
       apart = λ s inside. apart_at 0 list.pages.items no_page tested s inside;
     }
@@ -45,6 +46,13 @@ list_made list g mid made next k lawful mid_is made_is size first k_is some most
 
     next_is : next_said list ≡ next
     next_is = omega (arith, none, first)
+
+-- each page of the list lies below the limit
+pub list_below : (pages : List TipPage) (g mid : Geometry) → mid ≡ g → AreWholePages mid pages
+    → EachBelow g.limit pages
+list_below pages g mid same whole s inside =
+    subst (λ (x : Geometry). (slice_index_or pages s no_page).page < x.limit) same
+    (below_at mid pages no_page whole s inside)
 
 pub head_read : {D L : Type 0} (m : Meaning D) (start mid : Pool D L) (image : Image) (h : Header)
     (made : Geometry) (k : ℕ) (items : List TipPage) → KeepsStore m start mid

@@ -6,7 +6,7 @@ use Rattle.mg_base.specs.declared.transaction.TxState.{TxState}
 use Rattle.mg_base.specs.declared.transaction.TxState.TheVariants.{Committed}
 use Rattle.mg_space.specs.TakingLaws.{page_sizes}
 use Rattle.mg_tip.specs.TipPage.{SetsState, places, state_in}
-use Rattle.mg_txlist.specs.TxList.{IsTxList, bits_said, next_said, no_page, tip_in}
+use Rattle.mg_txlist.specs.TxList.{IsTxList, TipsAreBelow, bits_said, next_said, no_page, tip_in}
 use Rattle.mg_txlist.specs.declared.list.TipPage.{TipPage}
 use Rattle.mg_txlist.specs.declared.list.TxList.{TxList}
 use Rattle.mg_txlist.proofs.ListLemmas.{page_there}
@@ -25,6 +25,12 @@ module _ (list : TxList) (t k : ℕ) (is : IsTxList list) (below : t < next_said
   -- the page is there
   pub page_below : (n : ℕ) → n ≡ length list.pages.items → t / k < n
   page_below n same = subst (λ (m : ℕ). t / k < m) (sym same) there
+
+  -- and lies below the limit, where each page of the list does
+  pub tip_below : (limit n : ℕ) → TipsAreBelow limit list
+      → n ≡ (tip_in list (t / places list.size)).page → n < limit
+  tip_below limit n each is_ = subst (λ (p : ℕ). p < limit)
+      (ap (λ (m : ℕ). (tip_in list (t / m)).page) k_is ∙ sym is_) (each (t / k) there)
 
   -- the page that was read is that of the number
   read_at : (x : TipPage) → x ≡ get_or list.pages.items (t / k) x → x ≡ tip_in list (t / k)

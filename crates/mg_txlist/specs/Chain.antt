@@ -1,6 +1,7 @@
 -- The chain of transaction inventory pages, as the list has it.
-use Rattle.std.specs.Prelude.{◌≡◌, ◌≢◌, ◌+◌, ℕ, zero, suc, List, [], ◌∷◌, ◌++◌, Ok, length}
+use Rattle.std.specs.Prelude.{◌≡◌, ◌≢◌, ◌<◌, ◌+◌, ℕ, zero, suc, List, [], ◌∷◌, ◌++◌, Ok, length}
 use Rattle.mg_base.specs.Checks.{PassesAll}
+use Rattle.mg_base.specs.declared.geometry.Geometry.{Geometry}
 use Rattle.mg_header.specs.HeaderPage.{reading}
 use Rattle.mg_header.specs.declared.header.Header.{Header}
 use Rattle.mg_image.specs.Form.{Pages}
@@ -17,10 +18,11 @@ abbrev pub tips_below : Pages → ℕ → ℕ → List TipPage
 tips_below pages at zero = []
 tips_below pages at (suc n) = tips_below pages (prev_in (pages at)) n ++ tip_at pages at ∷ []
 
--- each is one page long
-abbrev pub AreWholePages : ℕ → List TipPage → Type 0
-AreWholePages size [] = Unit {0}
-AreWholePages size (page ∷ pages) = (length page.bytes ≡ size) × AreWholePages size pages
+-- each is one page long, and lies below the page limit
+abbrev pub AreWholePages : Geometry → List TipPage → Type 0
+AreWholePages g [] = Unit {0}
+AreWholePages g (page ∷ pages) = (length page.bytes ≡ g.size) × (page.page < g.limit)
+    × AreWholePages g pages
 
 -- a page is a transaction inventory page of a sequence, and not the header's
 abbrev pub IsTipOf : ℕ → TipPage → Type 0

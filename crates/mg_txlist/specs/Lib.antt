@@ -6,4 +6,5 @@ pub mod Reading
 pub mod ReadingLaws
 pub mod Refusals
 pub mod Seeking
+pub mod TipLaws
 pub mod TxList

@@ -47,6 +47,14 @@ pub record IsTxList (list : TxList) : Type 0 where
   pub apart : (sequence : ℕ) → sequence < length list.pages.items
       → (tip_in list sequence).page ≢ 0
 
+-- each page of the list lies below a page limit
+abbrev pub EachBelow : ℕ → List TipPage → Type 0
+EachBelow limit pages = (sequence : ℕ) → sequence < length pages
+    → (slice_index_or pages sequence no_page).page < limit
+
+abbrev pub TipsAreBelow : ℕ → TxList → Type 0
+TipsAreBelow limit list = EachBelow limit list.pages.items
+
 -- one transaction has come to a state, and all others are as they were
 pub record EndsIn (old new : TxList) (t : ℕ) (state : TxState) : Type 0 where
   pub here : said new t ≡ state

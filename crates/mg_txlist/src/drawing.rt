@@ -1,7 +1,7 @@
 //! A number is drawn: the header has a higher next one, and the first transaction of a transaction
 //! inventory page gets that page.
 
-ghost use Rattle.std.specs.Prelude.{◌≡◌, ◌≢◌, ◌<◌, ◌≤◌, ◌+◌, ◌/◌, ◌%◌, ◌↔◌, ◌++◌, ◌∷◌, [], Ok, ℕ, IfErr, IfOk, OnErr, OnOk, true};
+ghost use Rattle.std.specs.Prelude.{◌≡◌, ◌≢◌, ◌<◌, ◌≤◌, ◌+◌, ◌/◌, ◌%◌, ◌↔◌, ◌++◌, ◌∷◌, [], Ok, ℕ, IfErr, IfOk, IfSome, OnErr, OnOk, true};
 ghost use Rattle.std.specs.Bool.{OnTrue};
 ghost use Rattle.mg_base.specs.Geometry.{is_page_size};
 ghost use Rattle.mg_base.specs.Image.{Image};
@@ -9,14 +9,14 @@ ghost use Rattle.mg_base.specs.declared.geometry.TheConstants.{GREATEST_LIMIT as
 ghost use Rattle.mg_base.specs.declared.transaction.TxState.TheVariants.{Active as ActiveState};
 ghost use Rattle.mg_header.specs.HeaderPage.{reading, the_page};
 ghost use Rattle.mg_header.specs.declared.header.TheConstants.{GREATEST_NEXT as MOST_NEXT};
-ghost use Rattle.mg_pool.specs.Batch.{IsLawful};
+ghost use Rattle.mg_pool.specs.Batch.{AreBelow, IsLawful};
 ghost use Rattle.mg_pool.specs.Fault.{TellsFault};
 ghost use Rattle.mg_pool.specs.Pool.{IsPool, shown};
 ghost use Rattle.mg_space.specs.Taking.{IsGeometry, RefusesTake};
 ghost use Rattle.mg_space.specs.View.{AreWhole, KeepsStore, ReadsAlone, Tells, pool_answer, viewed};
 ghost use Rattle.mg_txlist.specs.Drawing.{AddsNumber, AddsPage, DrawsIn, DrawsOn, FailsDraw, IsTipFor, MayBeHeader, PutsHead, PutsTip, SaysSame, last_orders, may_precede as may_precede_one, raised_header};
 ghost use Rattle.mg_txlist.specs.Refusals.{LacksHead, RefusesDraw};
-ghost use Rattle.mg_txlist.specs.TxList.{IsTxList, next_said};
+ghost use Rattle.mg_txlist.specs.TxList.{IsTxList, TipsAreBelow, next_said};
 
 use crate::list::{TipPage, TxList};
 use crate::loading::read_head;
@@ -51,6 +51,8 @@ impl TxList {
         ensures pool { IsPool D.meaning store.new }
         ensures geometry { store.new.geometry ≡ store.old.geometry }
         ensures fault { TellsFault D.meaning store.old store.new (pool_answer result) }
+        ensures tips { TipsAreBelow store.old.geometry.limit self.old
+            → TipsAreBelow store.old.geometry.limit self.new }
         ensures same { OnErr result (SaysSame self.old self.new) }
         ensures number { IfOk result (λ t. t.0 ≡ next_said self.old) }
         ensures adds { OnOk result (AddsNumber self.old self.new) }
@@ -122,7 +124,10 @@ fn fill<D: Disk>(
     ensures own { ReadsAlone result }
     ensures lawful { OnOk result
         (IsLawful store.old.geometry.size batch.new.pages batch.new.orders) }
+    ensures below { OnOk result (AreBelow store.old.geometry.limit batch.new.pages) }
     ensures page { IfOk result (IsTipFor store.old.geometry.size t.0) }
+    ensures page_below { IfOk result (λ page. IfSome page
+        (λ tip. tip.page < store.old.geometry.limit)) }
     ensures draws { (image : Image) → Tells D.meaning store.old.disk image → IfOk result
         (λ page. DrawsOn store.old.geometry t.0 (shown store.old.dirty image)
         (viewed store.old image batch.new) page batch.new.orders) }
@@ -185,12 +190,13 @@ fn put_head<D: Disk>(
 ) -> Result<(), SpaceFault>
     requires pool { IsPool D.meaning store.old }
     requires geometry { IsGeometry store.old.geometry }
-    requires whole { AreWhole store.old.geometry.size batch.old.pages }
+    requires whole { AreWhole store.old.geometry batch.old.pages }
 
     ensures keeps { KeepsStore D.meaning store.old store.new }
     ensures fault { TellsFault D.meaning store.old store.new (pool_answer result) }
     ensures own { ReadsAlone result }
     ensures puts { OnOk result (PutsHead store.old.geometry.size batch.old batch.new) }
+    ensures below { OnOk result (0 < store.old.geometry.limit) }
     ensures head { (image : Image) → Tells D.meaning store.old.disk image → OnOk result
         (MayBeHeader header.now (viewed store.old image batch.old 0)
         → reading (viewed store.old image batch.new 0) store.old.geometry.size ≡ Ok header.now) }
@@ -213,7 +219,7 @@ fn put_tip<D: Disk>(
 ) -> Result<TipPage, SpaceFault>
     requires pool { IsPool D.meaning store.old }
     requires geometry { IsGeometry store.old.geometry }
-    requires whole { AreWhole store.old.geometry.size batch.old.pages }
+    requires whole { AreWhole store.old.geometry batch.old.pages }
 
     ensures keeps { KeepsStore D.meaning store.old store.new }
     ensures fault { TellsFault D.meaning store.old store.new (pool_answer result) }

@@ -12,7 +12,7 @@ ghost use Rattle.mg_space.specs.Taking.{IsGeometry};
 ghost use Rattle.mg_space.specs.View.{pool_answer};
 ghost use Rattle.mg_tip.specs.TipPage.{SetsState, places as places_in};
 ghost use Rattle.mg_txlist.specs.Ending.{CommitsBits, FailsCommit, FailsToSettle, OnlyWritesSpace, SettlesPage};
-ghost use Rattle.mg_txlist.specs.TxList.{EndsIn, IsTxList, KeepsBits, next_said, no_page, tip_in};
+ghost use Rattle.mg_txlist.specs.TxList.{EndsIn, IsTxList, KeepsBits, TipsAreBelow, next_said, no_page, tip_in};
 
 use crate::list::{TipPage, TxList};
 use mg_base::{Disk, PageNo, TxNo, TxState};
@@ -41,6 +41,7 @@ impl TxList {
         requires list { IsTxList self.old }
         requires pool { IsPool D.meaning store.old }
         requires size { self.old.size ≡ store.old.geometry.size }
+        requires tips { TipsAreBelow store.old.geometry.limit self.old }
         requires some { 1 ≤ t.0 }
         requires drawn { t.0 < next_said self.old }
 
@@ -49,6 +50,7 @@ impl TxList {
         ensures geometry { store.new.geometry ≡ store.old.geometry }
         ensures fault { TellsFault D.meaning store.old store.new (pool_answer result) }
         ensures own { OnlyWritesSpace result }
+        ensures tips { TipsAreBelow store.old.geometry.limit self.new }
         ensures same { OnErr result (self.new ≡ self.old) }
         ensures ends { OnOk result (EndsIn self.old self.new t.0 CommittedState) }
         ensures commits { OnOk result (CommitsBits D.meaning self.old self.new store.old store.new t.0) }
@@ -127,6 +129,7 @@ fn keep_bytes(pages: &mut Vec<TipPage>, at: usize, bytes: &[u8])
 fn settle_page<D: Disk>(store: &mut Store<D>, page: PageNo, bytes: &[u8]) -> Result<(), PoolFault>
     requires pool { IsPool D.meaning store.old }
     requires whole { length bytes.now ≡ store.old.geometry.size }
+    requires below { page.0 < store.old.geometry.limit }
     requires apart { page.0 ≢ 0 }
 
     ensures pool { IsPool D.meaning store.new }

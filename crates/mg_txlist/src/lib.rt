@@ -11,7 +11,8 @@
 //!
 //! Invariant (`IsTxList`): there is a page of each sequence up to that of the last number drawn, and
 //! each is one page long. `load` answers the copies as the cache shows the pages (`HasHead`), and
-//! `draw` and `mark_committed` say what becomes of both.
+//! `draw` and `mark_committed` say what becomes of both. Each page lies below the page limit of the
+//! cache (`TipsAreBelow`): so a commit may put it without a look at it.
 //! Below: `mg_space`, for pages and the taking of one. Above: version chains and the engine.
 //! Not here: which transactions a statement sees, and when a commit may set its bits.
 #![tactic(auto)]

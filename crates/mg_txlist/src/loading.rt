@@ -13,7 +13,7 @@ ghost use Rattle.mg_space.specs.View.{KeepsStore, ReadsAlone, Tells, pool_answer
 ghost use Rattle.mg_txlist.specs.Chain.{AreTested, AreWholePages, HasHead, IsTipOf, tips_below};
 ghost use Rattle.mg_txlist.specs.Reading.{ReadsList, is_among_tips};
 ghost use Rattle.mg_txlist.specs.Refusals.{RefusesHead, RefusesLoad, RefusesTip, RefusesTips, link_to_head, wanted_in};
-ghost use Rattle.mg_txlist.specs.TxList.{IsTxList};
+ghost use Rattle.mg_txlist.specs.TxList.{IsTxList, TipsAreBelow};
 
 use crate::list::{TipPage, TxList};
 use mg_base::{Damaged, Disk, Field, GREATEST_LIMIT, PageNo};
@@ -39,6 +39,7 @@ impl TxList {
         ensures own { ReadsAlone result }
         ensures list { IfOk result IsTxList }
         ensures size { IfOk result (λ list. list.size ≡ store.old.geometry.size) }
+        ensures tips { IfOk result (TipsAreBelow store.old.geometry.limit) }
         ensures fresh { IfOk result (λ list. list.own.items ≡ []) }
         ensures says { (image : Image) → Tells D.meaning store.old.disk image → IfOk result
             (λ list. HasHead store.old.geometry.size (shown store.old.dirty image)
@@ -120,7 +121,7 @@ fn load_pages<D: Disk>(
     ensures fault { TellsFault D.meaning store.old store.new (pool_answer result) }
     ensures own { ReadsAlone result }
     ensures count { IfOk result (λ pages. length pages.items ≡ count) }
-    ensures whole { IfOk result (λ pages. AreWholePages store.old.geometry.size pages.items) }
+    ensures whole { IfOk result (λ pages. AreWholePages store.old.geometry pages.items) }
     ensures tested { IfOk result (λ pages. AreTested 0 pages.items) }
     ensures says { (image : Image) → Tells D.meaning store.old.disk image → IfOk result
         (λ pages. pages.items ≡ tips_below (shown store.old.dirty image) last.0 count) }
@@ -159,6 +160,7 @@ fn load_page<D: Disk>(
     ensures own { ReadsAlone result }
     ensures page { IfOk result (λ page. page.page ≡ at.0) }
     ensures whole { IfOk result (λ page. length page.bytes ≡ store.old.geometry.size) }
+    ensures below { OnOk result (at.0 < store.old.geometry.limit) }
     ensures tested { IfOk result (λ page. IsTipOf sequence page) }
     ensures says { (image : Image) → Tells D.meaning store.old.disk image → IfOk result
         (λ page. page.bytes ≡ shown store.old.dirty image at.0) }

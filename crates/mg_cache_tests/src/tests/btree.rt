@@ -1,8 +1,9 @@
 //! What no clause says: that calls succeed with ample memory, on a tree of three pages, byte by
 //! byte.
 
-ghost use Rattle.std.specs.Prelude.{◌≡◌, ◌≤◌, Some, IfOk, length};
-ghost use Rattle.mg_pool.specs.Pool.{IsPool};
+ghost use Rattle.std.specs.Bool.{OnTrue};
+ghost use Rattle.std.specs.Prelude.{◌≡◌, ◌≤◌, Some, IfOk, OnOk, length};
+ghost use Rattle.mg_pool.specs.Pool.{HasAtMost, IsPool};
 ghost use Rattle.mg_space.specs.Taking.{IsGeometry};
 ghost use Rattle.mg_space.specs.View.{AreWhole};
 
@@ -59,11 +60,15 @@ fn write_node(disk: &mut MemDisk, page: PageNo, content: &[u8]) -> Result<(), Me
 fn disk_with(alloc: Global, root: &[u8]) -> Result<MemDisk, Memory>
     requires root { length root.now ≤ 1000 }
     ensures size { IfOk result (λ disk. ⟦<MemDisk as Disk>⟧.meaning.size disk ≡ Some 1024) }
+    ensures within { IfOk result (λ disk. HasAtMost ⟦<MemDisk as Disk>⟧.meaning disk 16) }
 {
     let mut disk = MemDisk::new(alloc, 1024, 8, 8)?;
     write_node(&mut disk, PageNo(5), root)?;
     write_node(&mut disk, PageNo(6), LEFT)?;
     write_node(&mut disk, PageNo(7), RIGHT)?;
+    let Ok(8) = disk.pages() else {
+        return Err(Memory);
+    };
     Ok(disk)
 }
 
@@ -120,6 +125,7 @@ fn slot_behind<D: Disk>(
 fn failing_disk(alloc: Global, calls: u32) -> Result<FaultyDisk, Memory>
     requires few { calls ≤ 100 }
     ensures size { IfOk result (λ disk. ⟦<FaultyDisk as Disk>⟧.meaning.size disk ≡ Some 1024) }
+    ensures within { IfOk result (λ disk. HasAtMost ⟦<FaultyDisk as Disk>⟧.meaning disk 16) }
 {
     let mut bad = Vec::new(alloc);
     for call in 1..7 {
@@ -239,28 +245,33 @@ fn put_entry(store: &mut Store<MemDisk>, batch: &mut Batch, e: &Entry) -> Result
     requires pool { IsPool ⟦<MemDisk as Disk>⟧.meaning store.old }
     requires geometry { IsGeometry store.old.geometry }
     requires size { store.old.geometry.size ≡ 1024 }
-    requires whole { AreWhole 1024 batch.old.pages }
+    requires whole { AreWhole store.old.geometry batch.old.pages }
     requires short { length e.now.key ≤ 120 }
     requires child { e.now.child.0 ≡ 0 }
     ensures pool { IsPool ⟦<MemDisk as Disk>⟧.meaning store.new }
     ensures geometry { store.new.geometry ≡ store.old.geometry }
-    ensures whole { AreWhole 1024 batch.new.pages }
+    ensures whole { OnOk result (AreWhole store.new.geometry batch.new.pages) }
 {
     insert(store, batch, PageNo(5), e)
 }
 
-/// Puts the entry of a key of 120 equal bytes into the tree.
-fn put(store: &mut Store<MemDisk>, batch: &mut Batch, key: u8) -> Result<(), SpaceFault>
+/// Puts the entry of a key of 120 equal bytes into the tree, and tells whether it did.
+fn put(store: &mut Store<MemDisk>, batch: &mut Batch, key: u8) -> bool
     requires pool { IsPool ⟦<MemDisk as Disk>⟧.meaning store.old }
     requires geometry { IsGeometry store.old.geometry }
     requires size { store.old.geometry.size ≡ 1024 }
-    requires whole { AreWhole 1024 batch.old.pages }
+    requires whole { AreWhole store.old.geometry batch.old.pages }
     ensures pool { IsPool ⟦<MemDisk as Disk>⟧.meaning store.new }
     ensures geometry { store.new.geometry ≡ store.old.geometry }
-    ensures whole { AreWhole 1024 batch.new.pages }
+    ensures whole { OnTrue result (AreWhole store.new.geometry batch.new.pages) }
 {
-    let e = entry_of(store.alloc(), key, 120, 9, u16::from(key))?;
-    put_entry(store, batch, &e)
+    let Ok(e) = entry_of(store.alloc(), key, 120, 9, u16::from(key)) else {
+        return false;
+    };
+    match put_entry(store, batch, &e) {
+        Ok(()) => true,
+        Err(_) => false,
+    }
 }
 
 /// Takes an entry out, and keeps what the next call needs.
@@ -268,10 +279,10 @@ fn take_entry(store: &mut Store<MemDisk>, batch: &mut Batch, e: &Entry) -> Resul
     requires pool { IsPool ⟦<MemDisk as Disk>⟧.meaning store.old }
     requires geometry { IsGeometry store.old.geometry }
     requires size { store.old.geometry.size ≡ 1024 }
-    requires whole { AreWhole 1024 batch.old.pages }
+    requires whole { AreWhole store.old.geometry batch.old.pages }
     ensures pool { IsPool ⟦<MemDisk as Disk>⟧.meaning store.new }
     ensures geometry { store.new.geometry ≡ store.old.geometry }
-    ensures whole { AreWhole 1024 batch.new.pages }
+    ensures whole { AreWhole store.new.geometry batch.new.pages }
 {
     remove(store, batch, PageNo(5), e)
 }
@@ -281,10 +292,10 @@ fn take(store: &mut Store<MemDisk>, batch: &mut Batch, slot: u16) -> Result<bool
     requires pool { IsPool ⟦<MemDisk as Disk>⟧.meaning store.old }
     requires geometry { IsGeometry store.old.geometry }
     requires size { store.old.geometry.size ≡ 1024 }
-    requires whole { AreWhole 1024 batch.old.pages }
+    requires whole { AreWhole store.old.geometry batch.old.pages }
     ensures pool { IsPool ⟦<MemDisk as Disk>⟧.meaning store.new }
     ensures geometry { store.new.geometry ≡ store.old.geometry }
-    ensures whole { AreWhole 1024 batch.new.pages }
+    ensures whole { AreWhole store.new.geometry batch.new.pages }
 {
     let e = entry_of(store.alloc(), b'x', 1, 9, slot)?;
     take_entry(store, batch, &e)
@@ -301,7 +312,7 @@ impl Bench for Tree {
     type Call = Call;
 
     ghost ready = { λ it. IsPool ⟦<MemDisk as Disk>⟧.meaning it.store × IsGeometry it.store.geometry
-        × (it.store.geometry.size ≡ 1024) × AreWhole 1024 it.batch.pages };
+        × (it.store.geometry.size ≡ 1024) × AreWhole it.store.geometry it.batch.pages };
 
     fn does(&mut self, _alloc: Global, call: &Call) -> bool {
         let store = &mut self.store;
@@ -309,7 +320,7 @@ impl Bench for Tree {
         match *call {
             Call::Range(low, after, slot) => slot_behind(store, low, after) == slot,
             Call::Walk(one, two, three) => passes(store) == Ok((one, two, three)),
-            Call::Put(key) => put(store, batch, key) == Ok(()),
+            Call::Put(key) => put(store, batch, key),
             Call::Take(slot, there) => take(store, batch, slot) == Ok(there),
             Call::Absent(page) => batch.bytes(PageNo(page)).is_none(),
             Call::Has(page, bytes) => has_bytes(batch, PageNo(page), 16, bytes),

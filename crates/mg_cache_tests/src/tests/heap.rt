@@ -50,11 +50,11 @@ fn put(store: &mut Store<MemDisk>, batch: &mut Batch, cell: &[u8]) -> Result<Rec
     requires pool { IsPool mem_meaning store.old }
     requires geometry { IsGeometry store.old.geometry }
     requires size { store.old.geometry.size ≡ 1024 }
-    requires whole { AreWhole 1024 batch.old.pages }
+    requires whole { AreWhole store.old.geometry batch.old.pages }
     requires length { length cell.now ≤ 1000 }
     ensures pool { IsPool mem_meaning store.new }
     ensures geometry { store.new.geometry ≡ store.old.geometry }
-    ensures whole { AreWhole 1024 batch.new.pages }
+    ensures whole { AreWhole store.new.geometry batch.new.pages }
 {
     add(store, batch, OWNER, cell)
 }
@@ -65,10 +65,10 @@ fn fill(store: &mut Store<MemDisk>, batch: &mut Batch, from: u32, end: u32) -> b
     requires pool { IsPool mem_meaning store.old }
     requires geometry { IsGeometry store.old.geometry }
     requires size { store.old.geometry.size ≡ 1024 }
-    requires whole { AreWhole 1024 batch.old.pages }
+    requires whole { AreWhole store.old.geometry batch.old.pages }
     ensures pool { IsPool mem_meaning store.new }
     ensures geometry { store.new.geometry ≡ store.old.geometry }
-    ensures whole { AreWhole 1024 batch.new.pages }
+    ensures whole { AreWhole store.new.geometry batch.new.pages }
 {
     for page in from..end {
         if put(store, batch, &[1; 1000]) != Ok(slot_of(page, 0)) {
@@ -83,10 +83,10 @@ fn drop_slot(store: &mut Store<MemDisk>, batch: &mut Batch, at: RecId) -> bool
     requires pool { IsPool mem_meaning store.old }
     requires geometry { IsGeometry store.old.geometry }
     requires size { store.old.geometry.size ≡ 1024 }
-    requires whole { AreWhole 1024 batch.old.pages }
+    requires whole { AreWhole store.old.geometry batch.old.pages }
     ensures pool { IsPool mem_meaning store.new }
     ensures geometry { store.new.geometry ≡ store.old.geometry }
-    ensures whole { OnTrue result (AreWhole 1024 batch.new.pages) }
+    ensures whole { OnTrue result (AreWhole store.new.geometry batch.new.pages) }
 {
     match free(store, batch, at) {
         Ok(()) => true,
@@ -98,7 +98,7 @@ fn drop_slot(store: &mut Store<MemDisk>, batch: &mut Batch, at: RecId) -> bool
 fn change_page(store: &mut Store<MemDisk>, batch: &Batch, page: u32) -> Result<(), PoolFault>
     requires pool { IsPool mem_meaning store.old }
     requires size { store.old.geometry.size ≡ 1024 }
-    requires whole { AreWhole 1024 batch.now.pages }
+    requires whole { AreWhole store.old.geometry batch.now.pages }
     ensures pool { IsPool mem_meaning store.new }
     ensures geometry { store.new.geometry ≡ store.old.geometry }
 {
@@ -140,7 +140,7 @@ impl Bench for Table {
     type Call = Call;
 
     ghost ready = { λ it. IsPool mem_meaning it.store × IsGeometry it.store.geometry
-        × (it.store.geometry.size ≡ 1024) × AreWhole 1024 it.batch.pages };
+        × (it.store.geometry.size ≡ 1024) × AreWhole it.store.geometry it.batch.pages };
 
     fn does(&mut self, _alloc: Global, call: &Call) -> bool {
         let store = &mut self.store;

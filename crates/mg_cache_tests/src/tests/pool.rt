@@ -1,11 +1,12 @@
 //! What no clause says: that calls succeed with ample memory, and whole runs with their writes.
 
 ghost use Rattle.std.specs.Bool.{OnTrue};
-ghost use Rattle.std.specs.Prelude.{◌≡◌, ◌≢◌, [], Some, None, IfOk, true, length};
-ghost use Rattle.mg_pool.specs.Pool.{IsPool};
+ghost use Rattle.std.specs.Prelude.{◌≡◌, ◌≢◌, ◌<◌, [], Some, None, IfOk, true, length};
+ghost use Rattle.mg_pool.specs.Pool.{HasAtMost, IsPool};
 
 use super::calls::{Begins, Bench, go_on, run_each};
 use super::disks::read_page;
+use super::stores::new_disk;
 use mg_base::{Disk, FaultyDisk, Geometry, MemDisk, Memory, PageNo};
 use mg_careful::{Demand, Links, Order};
 use mg_pool::{BATCH_PAGES, Batch, DIRTY_PAGES, MARKERS, Pool, PoolFault};
@@ -39,7 +40,8 @@ impl Links for Unlinked {
 
 /// A pool over a disk with pages of 1024 bytes.
 fn pool_over<D: Disk + Drop>(alloc: Global, disk: D) -> Result<Pool<D, Unlinked>, Memory>
-    requires { D.meaning.size disk ≡ Some 1024 }
+    requires size { D.meaning.size disk ≡ Some 1024 }
+    requires within { HasAtMost D.meaning disk 2048 }
     ensures pool { IfOk result (λ pool. IsPool D.meaning pool) }
     ensures size { IfOk result (λ pool. pool.geometry.size ≡ 1024) }
 {
@@ -63,6 +65,8 @@ fn put_in_order<D: Disk>(
     requires pool { IsPool D.meaning pool.old }
     requires whole { length bytes.now ≡ pool.old.geometry.size }
     requires apart { order.first ≢ order.later }
+    requires first { order.first < pool.old.geometry.limit }
+    requires later { order.later < pool.old.geometry.limit }
     ensures pool { IsPool D.meaning pool.new }
     ensures geometry { pool.new.geometry ≡ pool.old.geometry }
 {
@@ -88,7 +92,8 @@ fn order_two<D: Disk>(
     ensures pool { IsPool D.meaning pool.new }
     ensures geometry { pool.new.geometry ≡ pool.old.geometry }
 {
-    if first == later {
+    let limit = pool.geometry().limit;
+    if first == later || first >= limit || later >= limit {
         return false;
     }
     put_in_order(alloc, pool, Order { first, later }, &[byte; 1024]).is_ok()
@@ -106,6 +111,9 @@ fn change<D: Disk>(
     ensures pool { IsPool D.meaning pool.new }
     ensures geometry { pool.new.geometry ≡ pool.old.geometry }
 {
+    if page >= pool.geometry().limit {
+        return Err(PoolFault::Memory);
+    }
     pool.change_one(PageNo(page), &[byte; 1024], before(page, first))
 }
 
@@ -199,6 +207,9 @@ fn put_record<D: Disk>(pool: &mut Pool<D, Unlinked>, own: u8, next: u8) -> Resul
     let mut bytes = [0; 1024];
     bytes[0] = own;
     bytes[1] = next;
+    if page >= pool.geometry().limit {
+        return Err(PoolFault::Memory);
+    }
     pool.change_one(PageNo(page), &bytes, before(page, pointed(next)))
 }
 
@@ -253,7 +264,7 @@ impl Begins for Cache {
 
     fn begin(alloc: Global, from: (u32, &'static [u32])) -> Result<Cache, Memory> {
         let (pages, bad) = from;
-        let disk = MemDisk::new(alloc, 1024, pages, 16)?;
+        let disk = new_disk(alloc, pages)?;
         let bad = Vec::from_slice(alloc, bad)?;
         pool_over(alloc, FaultyDisk::new(disk, bad))
     }

@@ -1,8 +1,9 @@
 //! The stores and batches that the tests begin with: pages have 1024 bytes.
 
-ghost use Rattle.std.specs.Prelude.{◌≡◌, ◌≤◌, Some, IfOk};
+ghost use Rattle.std.specs.Prelude.{◌≡◌, ◌≤◌, ◌<◌, ℕ, Some, IfOk};
 ghost use Rattle.mg_base.specs.MemDisk.{mem_meaning};
-ghost use Rattle.mg_pool.specs.Pool.{IsPool};
+ghost use Rattle.mg_base.specs.declared.geometry.Geometry.{Geometry};
+ghost use Rattle.mg_pool.specs.Pool.{HasAtMost, IsPool};
 ghost use Rattle.mg_space.specs.Taking.{IsGeometry};
 ghost use Rattle.mg_space.specs.View.{AreWhole};
 
@@ -19,10 +20,11 @@ pub const OWNER: PageNo = PageNo(5);
 /// A store over a disk, below this limit.
 pub fn store_over<D: Disk + Drop>(alloc: Global, disk: D, limit: u32) -> Result<Store<D>, Memory>
     requires size { D.meaning.size disk ≡ Some 1024 }
-    requires limit { limit ≤ 131072 }
+    requires within { HasAtMost D.meaning disk limit }
     ensures pool { IfOk result (λ store. IsPool D.meaning store) }
     ensures geometry { IfOk result (λ store. IsGeometry store.geometry) }
     ensures size { IfOk result (λ store. store.geometry.size ≡ 1024) }
+    ensures limit { IfOk result (λ store. store.geometry.limit ≡ limit) }
 {
     let geometry = Geometry { size: 1024, limit };
     match Pool::new(alloc, disk, geometry) {
@@ -31,15 +33,26 @@ pub fn store_over<D: Disk + Drop>(alloc: Global, disk: D, limit: u32) -> Result<
     }
 }
 
+/// A disk without pages, with room for so many.
+pub fn new_disk(alloc: Global, room: u32) -> Result<MemDisk, Memory>
+    ensures size { IfOk result (λ disk. mem_meaning.size disk ≡ Some 1024) }
+    ensures count { IfOk result (λ disk. mem_meaning.count disk ≡ Some 0) }
+{
+    let mut disk = MemDisk::new(alloc, 1024, room, 16)?;
+    let Ok(0) = disk.pages() else {
+        return Err(Memory);
+    };
+    Ok(disk)
+}
+
 /// A store over a disk without pages, below this limit.
 pub fn empty_store(alloc: Global, limit: u32) -> Result<Store<MemDisk>, Memory>
-    requires limit { limit ≤ 131072 }
     ensures pool { IfOk result (λ store. IsPool mem_meaning store) }
     ensures geometry { IfOk result (λ store. IsGeometry store.geometry) }
     ensures size { IfOk result (λ store. store.geometry.size ≡ 1024) }
+    ensures limit { IfOk result (λ store. store.geometry.limit ≡ limit) }
 {
-    let disk = MemDisk::new(alloc, 1024, 16, 16)?;
-    store_over(alloc, disk, limit)
+    store_over(alloc, new_disk(alloc, 16)?, limit)
 }
 
 /// Tells whether a page of a batch has these bytes from a place on.
@@ -65,7 +78,7 @@ pub fn inventory_page(used: u32) -> [u8; 1024]
 /// A batch with the first inventory page, on which the first pages are used.
 pub fn batch_with(alloc: Global, used: u32) -> Result<Batch, Memory>
     requires { used ≤ 8064 }
-    ensures whole { IfOk result (λ batch. AreWhole 1024 batch.pages) }
+    ensures whole { IfOk result (λ batch. (g : Geometry) → g.size ≡ 1024 → 1 < g.limit → AreWhole g batch.pages) }
 {
     let mut batch = Batch::new(alloc);
     batch.put(PageNo(1), &inventory_page(used))?;
@@ -81,7 +94,7 @@ fn pointer_page() -> [u8; 1024] {
 
 /// A batch with the first inventory page, on which pages 0 to 6 are used, and an empty table.
 pub fn empty_table(alloc: Global) -> Result<Batch, Memory>
-    ensures whole { IfOk result (λ batch. AreWhole 1024 batch.pages) }
+    ensures whole { IfOk result (λ batch. (g : Geometry) → g.size ≡ 1024 → 5 < g.limit → AreWhole g batch.pages) }
 {
     let mut batch = batch_with(alloc, 7)?;
     batch.put(OWNER, &pointer_page())?;
@@ -97,11 +110,11 @@ pub struct Table {
 
 /// An empty table, over a store below this limit.
 pub fn new_table(alloc: Global, limit: u32) -> Result<Table, Memory>
-    requires limit { limit ≤ 131072 }
+    requires limit { 5 < limit }
     ensures pool { IfOk result (λ it. IsPool mem_meaning it.store) }
     ensures geometry { IfOk result (λ it. IsGeometry it.store.geometry) }
     ensures size { IfOk result (λ it. it.store.geometry.size ≡ 1024) }
-    ensures whole { IfOk result (λ it. AreWhole 1024 it.batch.pages) }
+    ensures whole { IfOk result (λ it. AreWhole it.store.geometry it.batch.pages) }
 {
     let batch = empty_table(alloc)?;
     Ok(Table {

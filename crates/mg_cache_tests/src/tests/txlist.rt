@@ -6,7 +6,7 @@ ghost use Rattle.std.specs.Prelude.{◌≡◌, Some, IfOk};
 ghost use Rattle.mg_base.specs.MemDisk.{mem_meaning};
 ghost use Rattle.mg_pool.specs.Pool.{IsPool};
 ghost use Rattle.mg_space.specs.Taking.{IsGeometry};
-ghost use Rattle.mg_txlist.specs.TxList.{IsTxList};
+ghost use Rattle.mg_txlist.specs.TxList.{IsTxList, TipsAreBelow};
 
 use super::calls::{Begins, Bench, run_each};
 use super::stores::{inventory_page, store_over};
@@ -69,6 +69,7 @@ fn new_database(alloc: Global) -> Result<Store<MemDisk>, Memory>
     ensures pool { IfOk result (λ store. IsPool mem_meaning store) }
     ensures geometry { IfOk result (λ store. IsGeometry store.geometry) }
     ensures size { IfOk result (λ store. store.geometry.size ≡ 1024) }
+    ensures limit { IfOk result (λ store. store.geometry.limit ≡ 16) }
 {
     let mut disk = MemDisk::new(alloc, 1024, 8, 16)?;
     for n in 0..3 {
@@ -76,10 +77,13 @@ fn new_database(alloc: Global) -> Result<Store<MemDisk>, Memory>
             return Err(Memory);
         }
     }
-    match disk.page_size() {
-        Ok(1024) => store_over(alloc, disk, 16),
-        _ => Err(Memory),
-    }
+    let Ok(1024) = disk.page_size() else {
+        return Err(Memory);
+    };
+    let Ok(3) = disk.pages() else {
+        return Err(Memory);
+    };
+    store_over(alloc, disk, 16)
 }
 
 /// The last transaction inventory page that the header names, 0 where no header is read.
@@ -103,10 +107,13 @@ fn draw(list: &mut TxList, store: &mut Store<MemDisk>) -> Result<TxNo, SpaceFaul
     requires pool { IsPool mem_meaning store.old }
     requires geometry { IsGeometry store.old.geometry }
     requires size { list.old.size ≡ store.old.geometry.size }
+    requires limit { store.old.geometry.limit ≡ 16 }
+    requires tips { TipsAreBelow 16 list.old }
     ensures list { IsTxList list.new }
     ensures pool { IsPool mem_meaning store.new }
     ensures geometry { store.new.geometry ≡ store.old.geometry }
     ensures size { list.new.size ≡ list.old.size }
+    ensures tips { TipsAreBelow 16 list.new }
 {
     if list.next().0 >= GREATEST_NEXT {
         return Err(SpaceFault::Pool(PoolFault::Memory));
@@ -120,10 +127,13 @@ fn commit(list: &mut TxList, store: &mut Store<MemDisk>, t: TxNo) -> Result<(), 
     requires pool { IsPool mem_meaning store.old }
     requires geometry { IsGeometry store.old.geometry }
     requires size { list.old.size ≡ store.old.geometry.size }
+    requires limit { store.old.geometry.limit ≡ 16 }
+    requires tips { TipsAreBelow 16 list.old }
     ensures list { IsTxList list.new }
     ensures pool { IsPool mem_meaning store.new }
     ensures geometry { store.new.geometry ≡ store.old.geometry }
     ensures size { list.new.size ≡ list.old.size }
+    ensures tips { TipsAreBelow 16 list.new }
 {
     if t.0 == 0 || t.0 >= list.next().0 {
         return Err(SpaceFault::Pool(PoolFault::Memory));
@@ -173,8 +183,10 @@ fn load(listed: &mut Listed) -> bool
     requires pool { IsPool mem_meaning listed.old.store }
     requires geometry { IsGeometry listed.old.store.geometry }
     requires size { listed.old.store.geometry.size ≡ 1024 }
+    requires limit { listed.old.store.geometry.limit ≡ 16 }
     ensures list { OnTrue result (IsTxList listed.new.list) }
     ensures list_size { OnTrue result (listed.new.list.size ≡ 1024) }
+    ensures tips { OnTrue result (TipsAreBelow 16 listed.new.list) }
     ensures pool { IsPool mem_meaning listed.new.store }
     ensures geometry { listed.new.store.geometry ≡ listed.old.store.geometry }
 {
@@ -192,7 +204,8 @@ impl Bench for Listed {
 
     ghost ready = { λ it. IsTxList it.list × (it.list.size ≡ 1024)
         × IsPool mem_meaning it.store × IsGeometry it.store.geometry
-        × (it.store.geometry.size ≡ 1024) };
+        × (it.store.geometry.size ≡ 1024) × (it.store.geometry.limit ≡ 16)
+        × TipsAreBelow 16 it.list };
 
     fn does(&mut self, _alloc: Global, call: &Call) -> bool {
         match *call {

@@ -11,7 +11,7 @@ ghost use Rattle.mg_space.specs.Taking.{IsGeometry};
 
 use super::cases::{Case, hold_each};
 use super::tables::{catalog, kv};
-use mg_base::{Damaged, Field, Geometry, MemDisk, Memory, PageNo, RecId, TxNo, TxState};
+use mg_base::{Damaged, Disk, Field, Geometry, MemDisk, Memory, PageNo, RecId, TxNo, TxState};
 use mg_chain::States;
 use mg_format::format_database;
 use mg_model::Table;
@@ -49,6 +49,7 @@ fn new_store(alloc: Global) -> Result<Store<MemDisk>, Fail>
     ensures pool { IfOk result (λ store. IsPool mem_meaning store) }
     ensures geometry { IfOk result (λ store. IsGeometry store.geometry) }
     ensures size { IfOk result (λ store. store.geometry.size ≡ 1024) }
+    ensures limit { IfOk result (λ store. store.geometry.limit ≡ 16) }
 {
     let mut store = empty_store(alloc)?;
     format_database(&mut store)?;
@@ -60,9 +61,13 @@ fn empty_store(alloc: Global) -> Result<Store<MemDisk>, Memory>
     ensures pool { IfOk result (λ store. IsPool mem_meaning store) }
     ensures geometry { IfOk result (λ store. IsGeometry store.geometry) }
     ensures size { IfOk result (λ store. store.geometry.size ≡ 1024) }
+    ensures limit { IfOk result (λ store. store.geometry.limit ≡ 16) }
     ensures clean { IfOk result (λ store. IsClean store) }
 {
-    let disk = MemDisk::new(alloc, 1024, 16, 16)?;
+    let mut disk = MemDisk::new(alloc, 1024, 16, 16)?;
+    let Ok(0) = disk.pages() else {
+        return Err(Memory);
+    };
     let geometry = Geometry {
         size: 1024,
         limit: 16,

@@ -1,7 +1,8 @@
 //! What no clause says: that a new database is written with ample memory, and its bytes.
 
 ghost use Rattle.std.specs.Prelude.{◌≡◌, Some, IfOk};
-ghost use Rattle.mg_pool.specs.Pool.{IsPool};
+ghost use Rattle.mg_base.specs.MemDisk.{mem_meaning};
+ghost use Rattle.mg_pool.specs.Pool.{HasAtMost, IsPool};
 ghost use Rattle.mg_format.specs.Format.{IsClean};
 ghost use Rattle.mg_space.specs.Taking.{IsGeometry};
 
@@ -16,9 +17,11 @@ use std::test::Fail;
 
 /// A store over a disk with pages of 4096 bytes.
 fn store_over<D: Disk + Drop>(alloc: Global, disk: D) -> Result<Store<D>, Memory>
-    requires { D.meaning.size disk ≡ Some 4096 }
+    requires size { D.meaning.size disk ≡ Some 4096 }
+    requires within { HasAtMost D.meaning disk 16 }
     ensures pool { IfOk result (λ store. IsPool D.meaning store) }
     ensures geometry { IfOk result (λ store. IsGeometry store.geometry) }
+    ensures limit { IfOk result (λ store. store.geometry.limit ≡ 16) }
     ensures clean { IfOk result (λ store. IsClean store) }
 {
     let geometry = Geometry {
@@ -31,9 +34,21 @@ fn store_over<D: Disk + Drop>(alloc: Global, disk: D) -> Result<Store<D>, Memory
     }
 }
 
+/// A disk without pages.
+fn new_disk(alloc: Global) -> Result<MemDisk, Memory>
+    ensures size { IfOk result (λ disk. mem_meaning.size disk ≡ Some 4096) }
+    ensures count { IfOk result (λ disk. mem_meaning.count disk ≡ Some 0) }
+{
+    let mut disk = MemDisk::new(alloc, 4096, 8, 16)?;
+    let Ok(0) = disk.pages() else {
+        return Err(Memory);
+    };
+    Ok(disk)
+}
+
 /// The disk of a new database.
 fn new_database(alloc: Global) -> Result<MemDisk, Fail> {
-    let mut store = store_over(alloc, MemDisk::new(alloc, 4096, 8, 16)?)?;
+    let mut store = store_over(alloc, new_disk(alloc)?)?;
     let formatted = format_database(&mut store);
     let disk = store.into_disk();
     formatted?;

@@ -4,7 +4,7 @@ ghost use Rattle.std.specs.Prelude.{◌≡◌, ◌≢◌, ◌<◌, ◌≤◌, �
 ghost use Rattle.mg_careful.specs.Precedence.{Precedes};
 ghost use Rattle.mg_careful.specs.Graph.{is_ordered, EntersPage};
 ghost use Rattle.mg_pool.specs.Dirty.{content_of, is_dirty as dirty_test, PutsContent};
-ghost use Rattle.mg_pool.specs.Batch.{content_in, IsOnce, IsLawful, lists, dirty_with};
+ghost use Rattle.mg_pool.specs.Batch.{AreBelow, content_in, IsOnce, IsLawful, lists, dirty_with};
 ghost use Rattle.mg_pool.specs.Change.{Changes, IsOpen, MakesRoom, EntersOrders, PutsPages, ChangesOverlays};
 ghost use Rattle.mg_pool.specs.Fault.{TellsFault, OnlyWrites};
 ghost use Rattle.mg_pool.specs.Refusal.{FailsWrites, LeavesRefused};
@@ -36,6 +36,7 @@ impl<D: Disk, L: Links> Pool<D, L> {
     pub fn change(&mut self, batch: Batch) -> Result<(), PoolFault>
         requires pool { IsPool D.meaning self.old }
         requires lawful { IsLawful self.old.geometry.size batch.pages batch.orders }
+        requires below { AreBelow self.old.geometry.limit batch.pages }
 
         ensures pool { IsPool D.meaning self.new }
         ensures fault { TellsFault D.meaning self.old self.new result }
@@ -103,6 +104,7 @@ impl<D: Disk, L: Links> Pool<D, L> {
         requires once { IsOnce pages.now.items }
         requires whole { (page : ℕ) (bytes : List ℕ) → content_in pages.now.items page ≡ Some bytes
             → length bytes ≡ self.old.geometry.size }
+        requires below { AreBelow self.old.geometry.limit pages.now.items }
         requires fits { dirty_with self.old.dirty pages.now.items ≤ 512 }
         ensures { PutsPages D.meaning (content_in pages.now.items) self.old self.new }
     {
@@ -115,6 +117,7 @@ impl<D: Disk, L: Links> Pool<D, L> {
     pub(crate) fn put_page(&mut self, page: u32, bytes: &[u8])
         requires pool { IsPool D.meaning self.old }
         requires whole { length bytes.now ≡ self.old.geometry.size }
+        requires below { page < self.old.geometry.limit }
         requires room { content_of self.old.dirty page ≡ None → length self.old.dirty.pages < 512 }
 
         ensures pool { IsPool D.meaning self.new }

@@ -1,6 +1,6 @@
 //! The change of one page, which is refused for no want of memory.
 
-ghost use Rattle.std.specs.Prelude.{◌≡◌, ◌≢◌, ◌≤◌, ℕ, List, true, Some, None, OnOk, OnErr, MatchResult, length};
+ghost use Rattle.std.specs.Prelude.{◌≡◌, ◌≢◌, ◌<◌, ◌≤◌, ℕ, List, true, Some, None, OnOk, OnErr, MatchResult, length};
 ghost use Rattle.std.specs.Option.{ForSome};
 ghost use Rattle.mg_careful.specs.Precedence.{Precedes};
 ghost use Rattle.mg_careful.specs.Graph.{is_ordered};
@@ -34,6 +34,7 @@ impl<D: Disk, L: Links> Pool<D, L> {
     ) -> Result<(), PoolFault>
         requires pool { IsPool D.meaning self.old }
         requires whole { length bytes.now ≡ self.old.geometry.size }
+        requires below { page.0 < self.old.geometry.limit }
         requires apart { first ≢ Some page }
 
         ensures pool { IsPool D.meaning self.new }

@@ -1,6 +1,10 @@
-use Rattle.std.proofs.Common.{refl, Ok}
+use Rattle.std.proofs.Common.{◌<◌, refl, subst, Ok}
+use Rattle.mg_base.specs.declared.geometry.Geometry.{Geometry}
+use Rattle.mg_space.specs.BelowLaws.{taken_below}
+use Rattle.mg_space.specs.Taking.{PutsInventory}
+use Rattle.mg_btree.specs.BelowLaws.{taken_whole}
 use Rattle.mg_base.specs.declared.numbers.PageNo.{PageNo}
-use Rattle.mg_space.specs.View.{viewed}
+use Rattle.mg_space.specs.View.{AreWhole, viewed}
 use Rattle.mg_space.specs.ViewLaws.{tells_on}
 use Rattle.mg_btree.specs.ExitLaws.{reads_ok}
 use Rattle.mg_btree.specs.OrderLaws.{alone_next, taken_alone, taken_put, widens_on, widens_same, widens_taken}
@@ -103,3 +107,22 @@ returns-clause-alone g c = alone_next c.args.batch.now c.take_page.new.batch
     c.in_ok-first.first.0 c.in_ok-first.ensures.puts)
     (taken_alone c.take_page.new.store.geometry c.take_page.new.batch c.take_page-2.new.batch
     c.in_ok-second.second.0 c.in_ok-second.ensures.puts)
+
+pub returns-clause-whole : goal.returns-clause-whole
+returns-clause-whole g c =
+    let first : AreWhole c.args.store.now.geometry c.take_page.new.batch.pages =
+    taken_whole c.args.store.now.geometry c.args.batch.now c.take_page.new.batch c.in_ok-first.first.0
+    c.requires.whole c.in_ok-first.ensures.puts in
+    taken_whole c.args.store.now.geometry c.take_page.new.batch c.take_page-2.new.batch
+    c.in_ok-second.second.0 first
+    (subst (λ (k : Geometry). PutsInventory k c.take_page.new.batch c.take_page-2.new.batch
+    c.in_ok-second.second.0) c.in_ok-first.ensures.keeps.geometry c.in_ok-second.ensures.puts)
+
+pub returns-clause-first : goal.returns-clause-first
+returns-clause-first g c =
+    taken_below c.args.store.now.geometry c.in_ok-first.first.0 c.in_ok-first.ensures.puts.below
+
+pub returns-clause-second : goal.returns-clause-second
+returns-clause-second g c = subst (λ (k : Geometry). c.in_ok-second.second.0 < k.limit)
+    c.in_ok-first.ensures.keeps.geometry
+    (taken_below c.take_page.new.store.geometry c.in_ok-second.second.0 c.in_ok-second.ensures.puts.below)

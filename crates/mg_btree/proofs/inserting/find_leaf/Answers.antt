@@ -1,4 +1,4 @@
-use Rattle.std.proofs.Common.{refl, sym, subst, Ok, Err}
+use Rattle.std.proofs.Common.{◌<◌, refl, sym, subst, Ok, Err}
 use Rattle.mg_space.specs.View.{AreWhole, viewed}
 use Rattle.mg_btree.specs.declared.node.ReadNode.{ReadNode}
 use Rattle.mg_btree.specs.declared.root.Root.{Root}
@@ -65,7 +65,7 @@ descend-requires-clause-geometry g c = subst IsGeometry (sym c.in_ok-top.ensures
     c.requires.geometry
 
 pub descend-requires-clause-whole : goal.descend-requires-clause-whole
-descend-requires-clause-whole g c = subst (λ (k : Geometry). AreWhole k.size c.args.batch.now.pages)
+descend-requires-clause-whole g c = subst (λ (k : Geometry). AreWhole k c.args.batch.now.pages)
     (sym c.in_ok-top.ensures.reads.keeps.geometry) c.requires.whole
 
 pub returns-in_err-top-clause-reached : goal.returns-in_err-top-clause-reached
@@ -81,3 +81,16 @@ returns-in_err-read-clause-reached g c = ok_of_err (λ (leaf : Leaf). IsReached
 pub returns-clause-reached : goal.returns-clause-reached
 returns-clause-reached g c = subst (λ (k : Geometry). IsReached k.size c.in_ok-top.top.owner 0
     c.args.e.now c.in_ok-read.read) c.in_ok-top.ensures.reads.keeps.geometry c.in_ok-read.ensures.reached
+
+pub returns-in_err-top-clause-below : goal.returns-in_err-top-clause-below
+returns-in_err-top-clause-below g c = ok_of_err (λ (leaf : Leaf). leaf.read.page.0
+    < c.args.store.now.geometry.limit) _ c.from_residual.result c.from_residual.ensures.1
+
+pub returns-in_err-read-clause-below : goal.returns-in_err-read-clause-below
+returns-in_err-read-clause-below g c = ok_of_err (λ (leaf : Leaf). leaf.read.page.0
+    < c.args.store.now.geometry.limit) _ c.from_residual-in_err-read.result
+    c.from_residual-in_err-read.ensures.1
+
+pub returns-clause-below : goal.returns-clause-below
+returns-clause-below g c = subst (λ (k : Geometry). c.in_ok-read.read.page.0 < k.limit)
+    c.in_ok-top.ensures.reads.keeps.geometry c.in_ok-read.ensures.below

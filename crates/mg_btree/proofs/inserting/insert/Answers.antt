@@ -1,4 +1,5 @@
-use Rattle.std.proofs.Common.{refl, sym, subst, ◌≤◌, ◌/◌, length, Ok}
+use Rattle.std.proofs.Common.{refl, sym, subst, ◌≤◌, ◌<◌, ◌/◌, length, Ok}
+use Rattle.std.specs.Prelude.{OnOk}
 use Rattle.mg_base.specs.declared.geometry.Geometry.{Geometry}
 use Rattle.mg_space.specs.View.{AreWhole, viewed}
 use Rattle.mg_btree.specs.declared.inserting.Leaf.{Leaf}
@@ -51,7 +52,7 @@ put_at-requires-clause-geometry g c = subst IsGeometry (sym c.in_ok-leaf.ensures
     c.requires.geometry
 
 pub put_at-requires-clause-whole : goal.put_at-requires-clause-whole
-put_at-requires-clause-whole g c = subst (λ (k : Geometry). AreWhole k.size c.args.batch.now.pages)
+put_at-requires-clause-whole g c = subst (λ (k : Geometry). AreWhole k c.args.batch.now.pages)
     (sym c.in_ok-leaf.ensures.reads.keeps.geometry) c.requires.whole
 
 pub put_at-requires-clause-short : goal.put_at-requires-clause-short
@@ -62,3 +63,11 @@ pub put_at-requires-clause-reached : goal.put_at-requires-clause-reached
 put_at-requires-clause-reached g c = subst (λ (k : Geometry). IsReached k.size
     c.in_ok-leaf.leaf.top.owner 0 c.args.e.now c.in_ok-leaf.leaf.read)
     (sym c.in_ok-leaf.ensures.reads.keeps.geometry) c.in_ok-leaf.ensures.reached
+
+pub put_at-requires-clause-below : goal.put_at-requires-clause-below
+put_at-requires-clause-below g c = subst (λ (k : Geometry). c.in_ok-leaf.leaf.read.page.0 < k.limit)
+    (sym c.in_ok-leaf.ensures.reads.keeps.geometry) c.in_ok-leaf.ensures.below
+
+pub returns-clause-whole : goal.returns-clause-whole
+returns-clause-whole g c = subst (λ (k : Geometry). OnOk c.put_at.result (AreWhole k c.put_at.new.batch.pages))
+    c.in_ok-leaf.ensures.reads.keeps.geometry c.put_at.ensures.whole

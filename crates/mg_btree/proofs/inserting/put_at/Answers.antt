@@ -1,5 +1,7 @@
-use Rattle.std.proofs.Common.{refl, sym, subst, ◌≤◌, ◌/◌, ℕ, length, Ok, Err}
+use Rattle.std.proofs.Common.{refl, sym, subst, ◌≤◌, ◌<◌, ◌/◌, ℕ, length, Ok, Err}
 use Rattle.mg_space.specs.View.{viewed}
+use Rattle.mg_base.specs.declared.numbers.PageNo.{PageNo}
+use Rattle.mg_btree.specs.BelowLaws.{with_whole}
 use Rattle.mg_btree.specs.ExitLaws.{online_itself, reads_memory, reads_ok}
 use Rattle.mg_btree.specs.PutAtLaws.{put_it, put_refused, put_there, reached_place}
 use Rattle.mg_btree.proofs.InsertingLemmas.{place_found, place_not_found, widens_with}
@@ -96,3 +98,15 @@ returns-in_err-put_with-clause-inserts g c = λ image owner root levels tells tr
 pub returns-clause-reads : goal.returns-clause-reads
 returns-clause-reads g c = reads_ok g.D.Disk.meaning c.args.store.now c.make_room.new.store
     (Ok c.in_ok-page.page) c.in_ok-page.page tt refl c.in_ok-page.ensures.reads
+
+pub returns-then-has_place-clause-whole : goal.returns-then-has_place-clause-whole
+returns-then-has_place-clause-whole g c = c.requires.whole
+
+pub make_room-requires-clause-below : goal.make_room-requires-clause-below
+make_room-requires-clause-below g c = subst (λ (p : PageNo). p.0 < c.args.store.now.geometry.limit)
+    (sym c.as_place.ensures.page) c.requires.below
+
+pub returns-clause-whole : goal.returns-clause-whole
+returns-clause-whole g c = with_whole c.args.store.now.geometry c.make_room.new.batch c.put_with.new.batch
+    c.in_ok-page.page c.args.e.now c.in_ok-page.ensures.whole c.in_ok-page.ensures.roomy.place.len
+    c.in_ok-page.ensures.half c.in_ok-put_with.ensures.puts

@@ -1,5 +1,6 @@
 use Rattle.std.proofs.Common.{rules, ◌≡◌, ap, ◌≤◌, ◌<◌, ◌+◌, ◌/◌, ◌∙◌, refl, sym, subst, Ok, Err, ℕ, List, length, arith, None}
 use Rattle.mg_base.specs.declared.geometry.Geometry.{Geometry}
+use Rattle.mg_base.specs.declared.numbers.PageNo.{PageNo}
 use Rattle.mg_space.specs.Taking.{IsGeometry}
 use Rattle.mg_space.specs.View.{AreWhole, viewed}
 use Rattle.mg_btree.specs.declared.halves.PageBytes.{PageBytes}
@@ -13,7 +14,8 @@ use Rattle.mg_btree.specs.PutAtLaws.{reached_place}
 use Rattle.mg_btree.specs.ReadingLaws.{ok_of_err, reads_on}
 use Rattle.mg_btree.specs.RoomLaws.{makes_nothing}
 use Rattle.mg_btree.specs.Rooms.{MakesRoomIn}
-use Rattle.std.specs.Prelude.{IfOk}
+use Rattle.std.specs.Prelude.{IfOk, OnOk}
+use Rattle.mg_btree.specs.BelowLaws.{split_half, split_whole}
 use Rattle.mg_btree.specs.declared.making.Split.{Split}
 use Rattle.mg_btree.specs.RowOrderLaws.{not_there}
 use Rattle.mg_btree.specs.RoomyLaws.{no_room_full, split_roomy}
@@ -113,9 +115,13 @@ make_room-requires g t c =
     below_other c.args.level c.args.top.level c.requires.lower c.if-level-top.false in
     let geometry : IsGeometry c.take_above.new.store.geometry =
     subst IsGeometry (sym keeps.geometry) c.requires.geometry in
-    let whole : AreWhole c.take_above.new.store.geometry.size c.take_above.new.batch.pages =
-    subst (λ (k : Geometry). AreWhole k.size c.take_above.new.batch.pages) (sym keeps.geometry)
-    (c.in_ok-split.ensures.widens.whole c.requires.whole) in
+    let whole : AreWhole c.take_above.new.store.geometry c.take_above.new.batch.pages =
+    subst (λ (k : Geometry). AreWhole k c.take_above.new.batch.pages) (sym keeps.geometry)
+    c.in_ok-split.ensures.whole in
+    let below : c.as_place.result.page.0 < c.take_above.new.store.geometry.limit =
+    subst (λ (k : Geometry). c.as_place.result.page.0 < k.limit) (sym keeps.geometry)
+    (subst (λ (p : PageNo). p.0 < c.args.store.now.geometry.limit) (sym c.as_place.ensures.page)
+    c.in_ok-split.ensures.above) in
     let online : c.take_above.new.store.offline ≡ None = keeps.offline ∙ c.requires.online in
     let low : c.args.level + 1 ≤ c.args.top.level = omega (arith, lower) in
     let place : IsPlaceFor c.take_above.new.store.geometry.size c.args.top.owner (c.args.level + 1)
@@ -297,3 +303,59 @@ put_split-requires-clause-covers g t c = c.in_ok-roomy.ensures.roomy.place.cover
 
 pub put_split-requires-clause-room : goal.put_split-requires-clause-room
 put_split-requires-clause-room g t c = c.in_ok-roomy.ensures.roomy.room
+
+pub returns-then-has_room-clause-whole : goal.returns-then-has_room-clause-whole
+returns-then-has_room-clause-whole g t c = c.requires.whole
+
+pub returns-then-has_room-clause-half : goal.returns-then-has_room-clause-half
+returns-then-has_room-clause-half g t c = c.requires.below
+
+pub returns-then-level-top-clause-whole : goal.returns-then-level-top-clause-whole
+returns-then-level-top-clause-whole g t c = c.grow_root.ensures.whole
+
+pub returns-then-level-top-clause-half : goal.returns-then-level-top-clause-half
+returns-then-level-top-clause-half g t c = c.grow_root.ensures.half
+
+pub returns-in_err-split-clause-half : goal.returns-in_err-split-clause-half
+returns-in_err-split-clause-half g t c = ok_of_err (λ (half : PageBytes). half.page.0
+    < c.args.store.now.geometry.limit) _ c.from_residual.result c.from_residual.ensures.1
+
+pub returns-in_err-roomy-clause-half : goal.returns-in_err-roomy-clause-half
+returns-in_err-roomy-clause-half g t c = ok_of_err (λ (half : PageBytes). half.page.0
+    < c.args.store.now.geometry.limit) _ c.from_residual-in_err-roomy.result
+    c.from_residual-in_err-roomy.ensures.1
+
+pub returns-clause-whole : goal.returns-clause-whole
+returns-clause-whole g t c =
+    let first = c.in_ok-split.ensures.reads.keeps.geometry in
+    let second = c.in_ok-roomy.ensures.reads.keeps.geometry ∙ first in
+    subst (λ (k : Geometry). OnOk c.put_split.result (AreWhole k c.put_split.new.batch.pages)) second
+    (split_whole c.make_room.new.store.geometry c.make_room.new.batch c.put_split.new.batch
+    c.in_ok-split.split.halves c.in_ok-roomy.roomy c.args.e.now
+    (subst (λ (k : Geometry). c.in_ok-split.split.halves.left.page.0 < k.limit) (sym second)
+    (subst (λ (n : ℕ). n < c.args.store.now.geometry.limit)
+    (sym c.in_ok-split.ensures.split.halves.left_own) c.requires.below))
+    (subst (λ (k : Geometry). c.in_ok-split.split.halves.right.page.0 < k.limit) (sym second)
+    c.in_ok-split.ensures.right)
+    (subst (λ (k : Geometry). c.in_ok-roomy.roomy.page.0 < k.limit)
+    (sym c.in_ok-roomy.ensures.reads.keeps.geometry) c.in_ok-roomy.ensures.half)
+    c.put_split.result
+    (subst (λ (k : Geometry). AreWhole k c.make_room.new.batch.pages)
+    (sym c.in_ok-roomy.ensures.reads.keeps.geometry) c.in_ok-roomy.ensures.whole)
+    c.put_split.ensures.widens c.put_split.ensures.splits)
+
+pub returns-clause-half : goal.returns-clause-half
+returns-clause-half g t c =
+    let first = c.in_ok-split.ensures.reads.keeps.geometry in
+    let second = c.in_ok-roomy.ensures.reads.keeps.geometry ∙ first in
+    subst (λ (k : Geometry). IfOk c.put_split.result (λ half. half.page.0 < k.limit)) second
+    (split_half c.make_room.new.store.geometry c.make_room.new.batch c.put_split.new.batch
+    c.in_ok-split.split.halves c.in_ok-roomy.roomy c.args.e.now
+    (subst (λ (k : Geometry). c.in_ok-split.split.halves.left.page.0 < k.limit) (sym second)
+    (subst (λ (n : ℕ). n < c.args.store.now.geometry.limit)
+    (sym c.in_ok-split.ensures.split.halves.left_own) c.requires.below))
+    (subst (λ (k : Geometry). c.in_ok-split.split.halves.right.page.0 < k.limit) (sym second)
+    c.in_ok-split.ensures.right)
+    (subst (λ (k : Geometry). c.in_ok-roomy.roomy.page.0 < k.limit)
+    (sym c.in_ok-roomy.ensures.reads.keeps.geometry) c.in_ok-roomy.ensures.half)
+    c.put_split.result c.put_split.ensures.splits)

@@ -3,6 +3,8 @@ use Rattle.mg_base.specs.declared.geometry.Geometry.{Geometry}
 use Rattle.mg_space.specs.View.{viewed}
 use Rattle.mg_space.specs.declared.fault.SpaceFault.TheVariants.{Damaged as OfPage}
 use Rattle.mg_btree.specs.declared.growing.TwoPages.{TwoPages}
+use Rattle.mg_btree.specs.declared.halves.PageBytes.{PageBytes}
+use Rattle.mg_btree.specs.BelowLaws.{root_half, root_whole}
 use Rattle.mg_btree.specs.ExitLaws.{online_itself, reads_damage, reads_memory, reads_ok}
 use Rattle.mg_btree.specs.GrownLaws.{high_refused, root_put, two_refused}
 use Rattle.mg_btree.specs.Making.{SplitsRoot}
@@ -118,3 +120,34 @@ returns-in_err-put_growth-clause-makes g c = λ image levels tells top stands. r
     (viewed c.args.store.now image c.put_growth.new.batch) c.args.batch.now c.put_growth.new.batch
     c.args.top.owner c.args.top.page.0 levels c.args.top.level c.args.e.now
     c.from_residual-in_err-put_growth.result c.from_residual-in_err-put_growth.ensures.1
+
+pub returns-in_err-two-clause-half : goal.returns-in_err-two-clause-half
+returns-in_err-two-clause-half g c = ok_of_err (λ (half : PageBytes). half.page.0
+    < c.args.store.now.geometry.limit) _ c.from_residual.result c.from_residual.ensures.1
+
+pub returns-in_err-put_growth-clause-half : goal.returns-in_err-put_growth-clause-half
+returns-in_err-put_growth-clause-half g c = ok_of_err (λ (half : PageBytes). half.page.0
+    < c.args.store.now.geometry.limit) _ c.from_residual-in_err-put_growth.result
+    c.from_residual-in_err-put_growth.ensures.1
+
+pub returns-clause-whole : goal.returns-clause-whole
+returns-clause-whole g c =
+    let same = c.in_ok-two.ensures.reads.keeps.geometry in
+    root_whole c.args.store.now.geometry c.take_two.new.batch c.put_growth.new.batch c.args.top.owner
+    c.args.top.level c.args.full c.in_ok-two.two c.args.e.now c.in_ok-put_growth.field-0 c.requires.below
+    c.in_ok-two.ensures.first c.in_ok-two.ensures.second
+    (subst (λ (k : Geometry). SplitsRoot k.size c.take_two.new.batch c.put_growth.new.batch
+    c.args.top.owner c.args.top.level c.args.full c.in_ok-two.two c.args.e.now
+    c.in_ok-put_growth.field-0) same c.in_ok-put_growth.ensures.splits) c.in_ok-two.ensures.whole
+    (subst (λ (k : Geometry). Widens k.size c.take_two.new.batch c.put_growth.new.batch) same
+    c.in_ok-put_growth.ensures.widens)
+
+pub returns-clause-half : goal.returns-clause-half
+returns-clause-half g c =
+    root_half c.args.store.now.geometry c.take_two.new.batch c.put_growth.new.batch c.args.top.owner
+    c.args.top.level c.args.full c.in_ok-two.two c.args.e.now c.in_ok-put_growth.field-0 c.requires.below
+    c.in_ok-two.ensures.first c.in_ok-two.ensures.second
+    (subst (λ (k : Geometry). SplitsRoot k.size c.take_two.new.batch c.put_growth.new.batch
+    c.args.top.owner c.args.top.level c.args.full c.in_ok-two.two c.args.e.now
+    c.in_ok-put_growth.field-0) c.in_ok-two.ensures.reads.keeps.geometry
+    c.in_ok-put_growth.ensures.splits)

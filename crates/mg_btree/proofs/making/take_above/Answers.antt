@@ -1,7 +1,8 @@
-use Rattle.std.proofs.Common.{◌∙◌, ◌+◌, refl, subst, sym, Ok, Err, ℕ, arith}
+use Rattle.std.proofs.Common.{◌∙◌, ◌+◌, ◌<◌, refl, subst, sym, Ok, Err, ℕ, arith}
 use Rattle.mg_base.specs.declared.geometry.Geometry.{Geometry}
 use Rattle.mg_space.specs.View.{AreWhole, viewed}
 use Rattle.mg_btree.specs.declared.halves.Halves.{Halves}
+use Rattle.mg_btree.specs.declared.making.Split.{Split}
 use Rattle.mg_btree.specs.declared.node.ReadNode.{ReadNode}
 use Rattle.mg_btree.specs.AboveLaws.{above_err, above_read, above_unread, fence_short}
 use Rattle.mg_btree.specs.ExitLaws.{reads_ok}
@@ -13,8 +14,8 @@ use Rattle.mg_btree.specs.Making.{IsSplit}
 use Rattle.mg_btree.proofs.making.take_above.Goals as goal
 
 pub descend-requires-clause-whole : goal.descend-requires-clause-whole
-descend-requires-clause-whole g c = subst (λ (x : Geometry). AreWhole x.size c.take_right.new.batch.pages)
-    (sym c.in_ok-halves.ensures.reads.keeps.geometry) (c.in_ok-halves.ensures.widens.whole c.requires.whole)
+descend-requires-clause-whole g c = subst (λ (x : Geometry). AreWhole x c.take_right.new.batch.pages)
+    (sym c.in_ok-halves.ensures.reads.keeps.geometry) c.in_ok-halves.ensures.whole
 
 pub returns-in_err-halves-clause-reads : goal.returns-in_err-halves-clause-reads
 returns-in_err-halves-clause-reads g c = reads_err Halves g.D.Disk.meaning c.args.store.now
@@ -103,3 +104,31 @@ returns-clause-widens g c = c.in_ok-halves.ensures.widens
 
 pub returns-clause-alone : goal.returns-clause-alone
 returns-clause-alone g c = c.in_ok-halves.ensures.alone
+
+pub returns-in_err-halves-clause-right : goal.returns-in_err-halves-clause-right
+returns-in_err-halves-clause-right g c = ok_of_err (λ (split : Split). split.halves.right.page.0
+    < c.args.store.now.geometry.limit) _ c.from_residual.result c.from_residual.ensures.1
+
+pub returns-in_err-halves-clause-above : goal.returns-in_err-halves-clause-above
+returns-in_err-halves-clause-above g c = ok_of_err (λ (split : Split). split.above.page.0
+    < c.args.store.now.geometry.limit) _ c.from_residual.result c.from_residual.ensures.1
+
+pub returns-in_err-above-clause-right : goal.returns-in_err-above-clause-right
+returns-in_err-above-clause-right g c = ok_of_err (λ (split : Split). split.halves.right.page.0
+    < c.args.store.now.geometry.limit) _ c.from_residual-in_err-above.result
+    c.from_residual-in_err-above.ensures.1
+
+pub returns-in_err-above-clause-above : goal.returns-in_err-above-clause-above
+returns-in_err-above-clause-above g c = ok_of_err (λ (split : Split). split.above.page.0
+    < c.args.store.now.geometry.limit) _ c.from_residual-in_err-above.result
+    c.from_residual-in_err-above.ensures.1
+
+pub returns-clause-whole : goal.returns-clause-whole
+returns-clause-whole g c = c.in_ok-halves.ensures.whole
+
+pub returns-clause-right : goal.returns-clause-right
+returns-clause-right g c = c.in_ok-halves.ensures.right
+
+pub returns-clause-above : goal.returns-clause-above
+returns-clause-above g c = subst (λ (x : Geometry). c.in_ok-above.above.page.0 < x.limit)
+    c.in_ok-halves.ensures.reads.keeps.geometry c.in_ok-above.ensures.below

@@ -1,9 +1,11 @@
-use Rattle.std.proofs.Common.{refl, Ok}
+use Rattle.std.proofs.Common.{◌<◌, ℕ, refl, subst, sym, Ok}
 use Rattle.mg_base.specs.declared.numbers.PageNo.{PageNo}
 use Rattle.mg_pool.specs.declared.fault.PoolFault.TheVariants.{Memory}
 use Rattle.mg_space.specs.View.{viewed}
 use Rattle.mg_space.specs.declared.fault.SpaceFault.TheVariants.{Pool as OfPool}
 use Rattle.mg_btree.specs.AboveLaws.{halves_own, right_refused, right_taken, sized_by}
+use Rattle.mg_space.specs.BelowLaws.{taken_below}
+use Rattle.mg_btree.specs.BelowLaws.{taken_whole}
 use Rattle.mg_btree.specs.ExitLaws.{reads_memory, reads_ok}
 use Rattle.mg_btree.specs.OrderLaws.{taken_alone, widens_same, widens_taken}
 use Rattle.mg_btree.specs.ScanLaws.{reads_err}
@@ -66,3 +68,12 @@ returns-clause-takes g c = λ image tells. right_taken c.args.store.now.geometry
 pub returns-clause-alone : goal.returns-clause-alone
 returns-clause-alone g c = taken_alone c.args.store.now.geometry c.args.batch.now
     c.take_page.new.batch c.in_ok-at.at.0 c.in_ok-at.ensures.puts
+
+pub returns-clause-whole : goal.returns-clause-whole
+returns-clause-whole g c = taken_whole c.args.store.now.geometry c.args.batch.now c.take_page.new.batch
+    c.in_ok-at.at.0 c.requires.whole c.in_ok-at.ensures.puts
+
+pub returns-clause-right : goal.returns-clause-right
+returns-clause-right g c = subst (λ (n : ℕ). n < c.args.store.now.geometry.limit)
+    (sym c.in_ok-halve.ensures.right_own)
+    (taken_below c.args.store.now.geometry c.in_ok-at.at.0 c.in_ok-at.ensures.puts.below)

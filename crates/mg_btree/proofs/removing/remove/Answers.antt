@@ -52,7 +52,7 @@ returns-in_err-put_without-clause-reads g c = reads_memory g.D.Disk.meaning c.ar
     c.from_residual-in_err-put_without.ensures.1
 
 pub returns-in_err-put_without-clause-whole : goal.returns-in_err-put_without-clause-whole
-returns-in_err-put_without-clause-whole g c = subst (λ b. AreWhole c.args.store.now.geometry.size b.pages)
+returns-in_err-put_without-clause-whole g c = subst (λ b. AreWhole c.args.store.now.geometry b.pages)
     (sym c.in_err-put_without.ensures.same) c.requires.whole
 
 pub returns-in_err-put_without-clause-orders : goal.returns-in_err-put_without-clause-orders
@@ -81,9 +81,9 @@ returns-clause-reads g c = reads_ok g.D.Disk.meaning c.args.store.now c.leaf_for
     (Ok c.in_ok-read.read) c.in_ok-read.read c.in_ok-put_without.field-0 refl c.in_ok-read.ensures.reads
 
 pub returns-clause-whole : goal.returns-clause-whole
-returns-clause-whole g c = whole_without c.args.store.now.geometry.size c.args.batch.now
+returns-clause-whole g c = whole_without c.args.store.now.geometry c.args.batch.now
     c.put_without.new.batch c.in_ok-read.read c.args.e.now c.in_ok-put_without.field-0 c.requires.whole
-    c.in_ok-read.ensures.leaf.len c.in_ok-put_without.ensures.puts
+    c.in_ok-read.ensures.leaf.len c.in_ok-read.ensures.below c.in_ok-put_without.ensures.puts
 
 pub returns-clause-orders : goal.returns-clause-orders
 returns-clause-orders g c = orders_without c.args.batch.now c.put_without.new.batch c.in_ok-read.read

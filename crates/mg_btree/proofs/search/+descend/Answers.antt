@@ -1,7 +1,8 @@
-use Rattle.std.proofs.Common.{rules, ◌-◌, refl, subst, ℕ, Ok}
+use Rattle.std.proofs.Common.{rules, ◌-◌, ◌<◌, refl, subst, ℕ, Ok}
 use Rattle.std.specs.Prelude.{IfOk}
 use Rattle.mg_base.specs.declared.numbers.PageNo.{PageNo}
 use Rattle.mg_space.specs.View.{viewed}
+use Rattle.mg_btree.specs.declared.node.ReadNode.{ReadNode}
 use Rattle.mg_btree.specs.PassLaws.{comes_below, pass_refused}
 use Rattle.mg_btree.specs.ReadingLaws.{ok_of_err, reads_on}
 use Rattle.mg_btree.specs.ScanLaws.{reads_err}
@@ -53,3 +54,14 @@ pub returns-clause-reached : goal.returns-clause-reached
 returns-clause-reached g t c = subst (λ (k : Geometry). IfOk c.descend.result (IsReached k.size
     c.args.owner c.args.level c.args.e.now)) c.in_ok-child.ensures.reads.keeps.geometry
     c.descend.ensures.reached
+
+pub returns-then-from-level-clause-below : goal.returns-then-from-level-clause-below
+returns-then-from-level-clause-below g t c = c.land.ensures.below
+
+pub returns-in_err-child-clause-below : goal.returns-in_err-child-clause-below
+returns-in_err-child-clause-below g t c = ok_of_err (λ (read : ReadNode). read.page.0
+    < c.args.store.now.geometry.limit) _ c.from_residual.result c.from_residual.ensures.1
+
+pub returns-clause-below : goal.returns-clause-below
+returns-clause-below g t c = subst (λ (k : Geometry). IfOk c.descend.result (λ read. read.page.0 < k.limit))
+    c.in_ok-child.ensures.reads.keeps.geometry c.descend.ensures.below

@@ -1,6 +1,6 @@
-use Rattle.std.proofs.Common.{rules, refl, Ok}
+use Rattle.std.proofs.Common.{rules, ◌<◌, refl, Ok}
 use Rattle.mg_btree.specs.ExitLaws.{reads_ok}
-use Rattle.mg_btree.specs.LandingLaws.{here_comes, here_reached, landing_next, landing_refused}
+use Rattle.mg_btree.specs.LandingLaws.{here_below, here_comes, here_reached, landing_next, landing_refused}
 use Rattle.mg_btree.specs.ReadingLaws.{ok_of_err}
 use Rattle.mg_btree.specs.ScanLaws.{reads_err}
 use Rattle.mg_btree.specs.Searching.{IsReached}
@@ -84,3 +84,21 @@ pub returns-clause-comes : goal.returns-clause-comes
 returns-clause-comes g c = λ image root levels tells begins. absurd (way_ends g.D.Disk.meaning
     c.args.store.now c.loop.store c.args.batch.now c.args.owner c.args.level
     c.args.e.now c.args.page.0 c.loop.at.0 c.loop.counter c.loop.invariant (search rules) image root levels tells begins)
+
+pub returns-in_err-read-clause-below : goal.returns-in_err-read-clause-below
+returns-in_err-read-clause-below g c = ok_of_err (λ (read : ReadNode). read.page.0
+    < c.args.store.now.geometry.limit) _ c.from_residual.result c.from_residual.ensures.1
+
+pub returns-in_err-landing-clause-below : goal.returns-in_err-landing-clause-below
+returns-in_err-landing-clause-below g c = ok_of_err (λ (read : ReadNode). read.page.0
+    < c.args.store.now.geometry.limit) _ c.from_residual-in_err-landing.result
+    c.from_residual-in_err-landing.ensures.1
+
+pub returns-in-Here-clause-below : goal.returns-in-Here-clause-below
+returns-in-Here-clause-below g c = here_below g.D.Disk.meaning c.args.store.now c.loop.store c.args.batch.now c.args.owner c.args.level
+    c.args.e.now c.args.page.0 c.loop.at.0 c.loop.counter c.loop.invariant
+    c.in_ok-read.read c.in_ok-read.ensures.read c.in_ok-read.ensures.seen
+    c.in-Here.found (rw c.in-Here.is at c.in_ok-landing.ensures) c.in_ok-read.ensures.below
+
+pub returns-clause-below : goal.returns-clause-below
+returns-clause-below g c = tt

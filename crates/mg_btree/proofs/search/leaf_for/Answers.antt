@@ -1,4 +1,4 @@
-use Rattle.std.proofs.Common.{ap, refl, sym, subst, Ok}
+use Rattle.std.proofs.Common.{◌<◌, ap, refl, sym, subst, Ok}
 use Rattle.mg_base.specs.declared.geometry.Geometry.{Geometry}
 use Rattle.mg_space.specs.Taking.{IsGeometry}
 use Rattle.mg_space.specs.View.{AreWhole, viewed}
@@ -6,6 +6,8 @@ use Rattle.mg_btree.specs.Changing.{IsLeaf}
 use Rattle.mg_btree.specs.LeafLaws.{leaf_ok, leaf_seen}
 use Rattle.mg_btree.specs.ReadingLaws.{ok_of_err, reads_on}
 use Rattle.mg_btree.specs.ScanLaws.{reads_err}
+use Rattle.std.specs.Prelude.{IfOk}
+use Rattle.mg_btree.specs.declared.node.ReadNode.{ReadNode}
 use Rattle.mg_btree.specs.declared.root.Root.{Root}
 use Rattle.mg_btree.proofs.ExitLemmas.{leaf_refused}
 use Rattle.mg_btree.proofs.search.leaf_for.Goals as goal
@@ -33,7 +35,7 @@ descend-requires-clause-geometry g c = subst IsGeometry (sym c.in_ok-top.ensures
     c.requires.geometry
 
 pub descend-requires-clause-whole : goal.descend-requires-clause-whole
-descend-requires-clause-whole g c = subst (λ (x : Geometry). AreWhole x.size c.args.batch.now.pages)
+descend-requires-clause-whole g c = subst (λ (x : Geometry). AreWhole x c.args.batch.now.pages)
     (sym c.in_ok-top.ensures.reads.keeps.geometry) c.requires.whole
 
 pub returns-clause-reads : goal.returns-clause-reads
@@ -50,3 +52,11 @@ pub returns-clause-seen : goal.returns-clause-seen
 returns-clause-seen g c = leaf_seen g.D.Disk.meaning c.args.store.now c.root_of.new.store c.args.batch.now
     c.args.root.0 c.args.e.now c.in_ok-top.top c.descend.result c.in_ok-top.ensures.reads.keeps
     c.in_ok-top.ensures.root c.descend.ensures.reached c.descend.ensures.comes
+
+pub returns-in_err-top-clause-below : goal.returns-in_err-top-clause-below
+returns-in_err-top-clause-below g c = ok_of_err (λ (read : ReadNode). read.page.0
+    < c.args.store.now.geometry.limit) _ c.from_residual.result c.from_residual.ensures.1
+
+pub returns-clause-below : goal.returns-clause-below
+returns-clause-below g c = subst (λ (k : Geometry). IfOk c.descend.result (λ read. read.page.0 < k.limit))
+    c.in_ok-top.ensures.reads.keeps.geometry c.descend.ensures.below

@@ -43,11 +43,11 @@ fn make(
     requires pool { IsPool mem_meaning store.old }
     requires geometry { IsGeometry store.old.geometry }
     requires size { store.old.geometry.size ≡ 1024 }
-    requires whole { AreWhole 1024 batch.old.pages }
+    requires whole { AreWhole store.old.geometry batch.old.pages }
     requires len { len ≤ 900 }
     ensures pool { IsPool mem_meaning store.new }
     ensures geometry { store.new.geometry ≡ store.old.geometry }
-    ensures whole { AreWhole 1024 batch.new.pages }
+    ensures whole { AreWhole store.new.geometry batch.new.pages }
 {
     let v = version(store.alloc(), t, len)?;
     let at = spot(store, batch, OWNER)?;
@@ -79,13 +79,13 @@ fn act(
     requires pool { IsPool mem_meaning store.old }
     requires geometry { IsGeometry store.old.geometry }
     requires size { store.old.geometry.size ≡ 1024 }
-    requires whole { AreWhole 1024 batch.old.pages }
+    requires whole { AreWhole store.old.geometry batch.old.pages }
     requires apart { v.now.primary ≡ false }
     requires format { v.now.format ≡ 1 }
     requires body { length v.now.body ≤ 900 }
     ensures pool { IsPool mem_meaning store.new }
     ensures geometry { store.new.geometry ≡ store.old.geometry }
-    ensures whole { AreWhole 1024 batch.new.pages }
+    ensures whole { AreWhole store.new.geometry batch.new.pages }
 {
     match deed {
         Deed::Push => push(store, batch, rec, v),
@@ -104,10 +104,10 @@ fn do_step(
     requires pool { IsPool mem_meaning store.old }
     requires geometry { IsGeometry store.old.geometry }
     requires size { store.old.geometry.size ≡ 1024 }
-    requires whole { AreWhole 1024 batch.old.pages }
+    requires whole { AreWhole store.old.geometry batch.old.pages }
     ensures pool { IsPool mem_meaning store.new }
     ensures geometry { store.new.geometry ≡ store.old.geometry }
-    ensures whole { AreWhole 1024 batch.new.pages }
+    ensures whole { AreWhole store.new.geometry batch.new.pages }
 {
     let (deed, by, len, _) = step;
     let v = version(store.alloc(), by, len.min(900))?;
@@ -123,7 +123,7 @@ fn told_of(
 ) -> Result<(u32, usize), SpaceFault>
     requires pool { IsPool mem_meaning store.old }
     requires geometry { IsGeometry store.old.geometry }
-    requires whole { AreWhole store.old.geometry.size batch.now.pages }
+    requires whole { AreWhole store.old.geometry batch.now.pages }
     ensures pool { IsPool mem_meaning store.new }
     ensures geometry { store.new.geometry ≡ store.old.geometry }
 {
@@ -137,7 +137,7 @@ fn newest(store: &mut Store<MemDisk>, batch: &Batch, rec: RecId) -> Result<(u32,
     requires pool { IsPool mem_meaning store.old }
     requires geometry { IsGeometry store.old.geometry }
     requires size { store.old.geometry.size ≡ 1024 }
-    requires whole { AreWhole 1024 batch.now.pages }
+    requires whole { AreWhole store.old.geometry batch.now.pages }
     ensures pool { IsPool mem_meaning store.new }
     ensures geometry { store.new.geometry ≡ store.old.geometry }
 {
@@ -157,10 +157,10 @@ fn after_step(
     requires pool { IsPool mem_meaning store.old }
     requires geometry { IsGeometry store.old.geometry }
     requires size { store.old.geometry.size ≡ 1024 }
-    requires whole { AreWhole 1024 batch.old.pages }
+    requires whole { AreWhole store.old.geometry batch.old.pages }
     ensures pool { IsPool mem_meaning store.new }
     ensures geometry { store.new.geometry ≡ store.old.geometry }
-    ensures whole { AreWhole 1024 batch.new.pages }
+    ensures whole { AreWhole store.new.geometry batch.new.pages }
 {
     do_step(store, batch, rec, step)?;
     newest(store, batch, rec)
@@ -177,7 +177,7 @@ impl Bench for Record {
     type Call = Step;
 
     ghost ready = { λ it. IsPool mem_meaning it.table.store × IsGeometry it.table.store.geometry
-        × (it.table.store.geometry.size ≡ 1024) × AreWhole 1024 it.table.batch.pages };
+        × (it.table.store.geometry.size ≡ 1024) × AreWhole it.table.store.geometry it.table.batch.pages };
 
     fn does(&mut self, _alloc: Global, step: &Step) -> bool {
         let table = &mut self.table;

@@ -20,10 +20,10 @@ fn take(store: &mut Store<MemDisk>, batch: &mut Batch) -> Result<PageNo, SpaceFa
     requires pool { IsPool mem_meaning store.old }
     requires geometry { IsGeometry store.old.geometry }
     requires size { store.old.geometry.size ≡ 1024 }
-    requires whole { AreWhole 1024 batch.old.pages }
+    requires whole { AreWhole store.old.geometry batch.old.pages }
     ensures pool { IsPool mem_meaning store.new }
     ensures geometry { store.new.geometry ≡ store.old.geometry }
-    ensures whole { AreWhole 1024 batch.new.pages }
+    ensures whole { AreWhole store.new.geometry batch.new.pages }
 {
     take_page(store, batch)
 }
@@ -50,7 +50,7 @@ impl Bench for Inventory {
     type Call = Call;
 
     ghost ready = { λ it. IsPool mem_meaning it.store × IsGeometry it.store.geometry
-        × (it.store.geometry.size ≡ 1024) × AreWhole 1024 it.batch.pages };
+        × (it.store.geometry.size ≡ 1024) × AreWhole it.store.geometry it.batch.pages };
 
     fn does(&mut self, _alloc: Global, call: &Call) -> bool {
         match *call {
@@ -69,9 +69,12 @@ impl Begins for Inventory {
 
     fn begin(alloc: Global, from: (u32, u32)) -> Result<Inventory, Memory> {
         let (limit, used) = from;
+        if limit < 2 {
+            return Err(Memory);
+        }
         let batch = batch_with(alloc, used.min(8064))?;
         Ok(Inventory {
-            store: empty_store(alloc, limit.min(131_072))?,
+            store: empty_store(alloc, limit)?,
             batch,
         })
     }

@@ -44,7 +44,7 @@ returns-in_err-order_first-clause-keeps g c = keeps_on g.D.Disk.meaning g.met.D.
     c.in_ok-turn.ensures.keeps
 
 pub returns-in_err-order_first-clause-whole : goal.returns-in_err-order_first-clause-whole
-returns-in_err-order_first-clause-whole g c = whole_ordered c.args.store.now.geometry.size
+returns-in_err-order_first-clause-whole g c = whole_ordered c.args.store.now.geometry
     c.turn.new.batch c.order_first.new.batch c.in_err-order_first.ensures.pages
     (whole_as c.put_first.new.store.geometry c.args.store.now.geometry c.turn.new.batch.pages
     c.in_ok-put.ensures.keeps.geometry c.in_ok-turn.ensures.whole)
@@ -55,7 +55,7 @@ returns-clause-keeps g c = keeps_on g.D.Disk.meaning g.met.D.Disk.counts_now
     c.in_ok-turn.ensures.keeps
 
 pub returns-clause-whole : goal.returns-clause-whole
-returns-clause-whole g c = whole_ordered c.args.store.now.geometry.size
+returns-clause-whole g c = whole_ordered c.args.store.now.geometry
     c.turn.new.batch c.order_first.new.batch c.in_ok-order_first.ensures.pages
     (whole_as c.put_first.new.store.geometry c.args.store.now.geometry c.turn.new.batch.pages
     c.in_ok-put.ensures.keeps.geometry c.in_ok-turn.ensures.whole)

@@ -44,7 +44,7 @@ returns-in_err-order_push-clause-keeps g c = keeps_on g.D.Disk.meaning g.met.D.D
     c.in_ok-turn.ensures.keeps
 
 pub returns-in_err-order_push-clause-whole : goal.returns-in_err-order_push-clause-whole
-returns-in_err-order_push-clause-whole g c = whole_ordered c.args.store.now.geometry.size
+returns-in_err-order_push-clause-whole g c = whole_ordered c.args.store.now.geometry
     c.turn.new.batch c.order_push.new.batch c.in_err-order_push.ensures.pages
     (whole_as c.put_version.new.store.geometry c.args.store.now.geometry c.turn.new.batch.pages
     c.in_ok-put.ensures.keeps.geometry c.in_ok-turn.ensures.whole)
@@ -55,7 +55,7 @@ returns-clause-keeps g c = keeps_on g.D.Disk.meaning g.met.D.Disk.counts_now
     c.in_ok-turn.ensures.keeps
 
 pub returns-clause-whole : goal.returns-clause-whole
-returns-clause-whole g c = whole_ordered c.args.store.now.geometry.size
+returns-clause-whole g c = whole_ordered c.args.store.now.geometry
     c.turn.new.batch c.order_push.new.batch c.in_ok-order_push.ensures.pages
     (whole_as c.put_version.new.store.geometry c.args.store.now.geometry c.turn.new.batch.pages
     c.in_ok-put.ensures.keeps.geometry c.in_ok-turn.ensures.whole)

@@ -44,7 +44,7 @@ returns-in_err-order_move-clause-keeps g c = keeps_on g.D.Disk.meaning g.met.D.D
     c.in_ok-swing.ensures.keeps
 
 pub returns-in_err-order_move-clause-whole : goal.returns-in_err-order_move-clause-whole
-returns-in_err-order_move-clause-whole g c = whole_ordered c.args.store.now.geometry.size
+returns-in_err-order_move-clause-whole g c = whole_ordered c.args.store.now.geometry
     c.swing.new.batch c.order_move.new.batch c.in_err-order_move.ensures.pages
     (whole_as c.put_moved.new.store.geometry c.args.store.now.geometry c.swing.new.batch.pages
     c.in_ok-moved.ensures.keeps.geometry c.in_ok-swing.ensures.whole)
@@ -55,7 +55,7 @@ returns-clause-keeps g c = keeps_on g.D.Disk.meaning g.met.D.Disk.counts_now
     c.in_ok-swing.ensures.keeps
 
 pub returns-clause-whole : goal.returns-clause-whole
-returns-clause-whole g c = whole_ordered c.args.store.now.geometry.size
+returns-clause-whole g c = whole_ordered c.args.store.now.geometry
     c.swing.new.batch c.order_move.new.batch c.in_ok-order_move.ensures.pages
     (whole_as c.put_moved.new.store.geometry c.args.store.now.geometry c.swing.new.batch.pages
     c.in_ok-moved.ensures.keeps.geometry c.in_ok-swing.ensures.whole)

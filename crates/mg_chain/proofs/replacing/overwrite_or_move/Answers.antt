@@ -19,7 +19,7 @@ returns-in_err-placed-clause-writes g c = λ image tells.
 
 pub returns-in_err-placed-clause-whole : goal.returns-in_err-placed-clause-whole
 returns-in_err-placed-clause-whole g c =
-    subst (λ (b : Changed). AreWhole c.args.store.now.geometry.size b.pages)
+    subst (λ (b : Changed). AreWhole c.args.store.now.geometry b.pages)
     (sym c.in_err-placed.ensures.same) c.requires.whole
 
 pub returns-then-placed-clause-writes : goal.returns-then-placed-clause-writes
@@ -29,9 +29,9 @@ returns-then-placed-clause-writes g c = λ image tells. inl (puts_where c.args.s
     (c.in_ok-placed.ensures.places image tells))
 
 pub returns-then-placed-clause-whole : goal.returns-then-placed-clause-whole
-returns-then-placed-clause-whole g c = whole_where c.args.store.now.geometry.size c.args.batch.now
+returns-then-placed-clause-whole g c = whole_where c.args.store.now.geometry c.args.batch.now
     c.place.new.batch c.args.head.newest.rec.page.0 c.in_ok-placed.placed c.requires.whole
-    c.in_ok-placed.ensures.changes
+    c.in_ok-placed.ensures.below c.in_ok-placed.ensures.changes
 
 pub returns-clause-writes : goal.returns-clause-writes
 returns-clause-writes g c = λ image tells. moved_then g.D.Disk.meaning c.args.store.now

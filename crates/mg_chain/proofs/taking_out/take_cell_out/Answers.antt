@@ -42,7 +42,7 @@ returns-in_err-order_out-clause-keeps g c = keeps_on g.D.Disk.meaning g.met.D.Di
     c.in_ok-swing.ensures.keeps
 
 pub returns-in_err-order_out-clause-whole : goal.returns-in_err-order_out-clause-whole
-returns-in_err-order_out-clause-whole g c = whole_ordered c.args.store.now.geometry.size
+returns-in_err-order_out-clause-whole g c = whole_ordered c.args.store.now.geometry
     c.swing.new.batch c.order_out.new.batch c.in_err-order_out.ensures.pages
     (whole_as c.slot_pointers.new.store.geometry c.args.store.now.geometry c.swing.new.batch.pages
     c.in_ok-pointers.ensures.keeps.geometry c.in_ok-swing.ensures.whole)
@@ -53,7 +53,7 @@ returns-clause-keeps g c = keeps_on g.D.Disk.meaning g.met.D.Disk.counts_now
     c.in_ok-swing.ensures.keeps
 
 pub returns-clause-whole : goal.returns-clause-whole
-returns-clause-whole g c = whole_ordered c.args.store.now.geometry.size
+returns-clause-whole g c = whole_ordered c.args.store.now.geometry
     c.swing.new.batch c.order_out.new.batch c.in_ok-order_out.ensures.pages
     (whole_as c.slot_pointers.new.store.geometry c.args.store.now.geometry c.swing.new.batch.pages
     c.in_ok-pointers.ensures.keeps.geometry c.in_ok-swing.ensures.whole)

@@ -25,11 +25,11 @@ returns-clause-gives g c = λ image tells.
 pub returns-clause-whole : goal.returns-clause-whole
 returns-clause-whole g c = whole_as c.turn_back.new.store.geometry c.args.store.now.geometry
     c.free.new.batch.pages c.in_ok-turn_back.ensures.keeps.geometry
-    (whole_freed c.turn_back.new.store.geometry.size c.turn_back.new.batch c.free.new.batch
+    (whole_freed c.turn_back.new.store.geometry c.turn_back.new.batch c.free.new.batch
     c.args.left.page.0 c.free.result
     (whole_as c.args.store.now.geometry c.turn_back.new.store.geometry c.turn_back.new.batch.pages
     (sym c.in_ok-turn_back.ensures.keeps.geometry) c.in_ok-turn_back.ensures.whole)
-    c.free.ensures.changes c.free.ensures.same)
+    c.free.ensures.below c.free.ensures.changes c.free.ensures.same)
 
 pub returns-clause-keeps : goal.returns-clause-keeps
 returns-clause-keeps g c = keeps_on g.D.Disk.meaning g.met.D.Disk.counts_now

@@ -35,15 +35,15 @@ returns-clause-gives g c = λ image tells.
 
 pub returns-in_err-placed-clause-whole : goal.returns-in_err-placed-clause-whole
 returns-in_err-placed-clause-whole g c =
-    subst (λ (b : Changed). AreWhole c.args.store.now.geometry.size b.pages)
+    subst (λ (b : Changed). AreWhole c.args.store.now.geometry b.pages)
     (sym c.in_err-placed.ensures.same) c.requires.whole
 
 pub returns-then-not-placed-clause-whole : goal.returns-then-not-placed-clause-whole
-returns-then-not-placed-clause-whole g c = whole_where c.args.store.now.geometry.size c.args.batch.now
+returns-then-not-placed-clause-whole g c = whole_where c.args.store.now.geometry c.args.batch.now
     c.place.new.batch c.args.rec.page.0 c.in_ok-placed.placed c.requires.whole
-    c.in_ok-placed.ensures.changes
+    c.in_ok-placed.ensures.below c.in_ok-placed.ensures.changes
 
 pub returns-clause-whole : goal.returns-clause-whole
-returns-clause-whole g c = whole_where c.args.store.now.geometry.size c.args.batch.now
+returns-clause-whole g c = whole_where c.args.store.now.geometry c.args.batch.now
     c.place.new.batch c.args.rec.page.0 c.in_ok-placed.placed c.requires.whole
-    c.in_ok-placed.ensures.changes
+    c.in_ok-placed.ensures.below c.in_ok-placed.ensures.changes

@@ -18,6 +18,6 @@ returns-in-None-clause-gives g c = λ image tells.
     (c.free.ensures.frees image tells)
 
 pub returns-in-None-clause-whole : goal.returns-in-None-clause-whole
-returns-in-None-clause-whole g c = whole_freed c.args.store.now.geometry.size c.args.batch.now
-    c.free.new.batch c.args.rec.page.0 c.free.result c.requires.whole c.free.ensures.changes
-    c.free.ensures.same
+returns-in-None-clause-whole g c = whole_freed c.args.store.now.geometry c.args.batch.now
+    c.free.new.batch c.args.rec.page.0 c.free.result c.requires.whole c.free.ensures.below
+    c.free.ensures.changes c.free.ensures.same

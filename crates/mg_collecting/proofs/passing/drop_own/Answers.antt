@@ -1,6 +1,7 @@
 use Rattle.mg_collecting.specs.Passing.{DropsOwn, FailsDrop}
 use Rattle.mg_collecting.proofs.BatchLemmas.{drop_done, drop_none, drop_unchanged, drop_unfilled}
 use Rattle.mg_collecting.proofs.PartLemmas.{handed_on}
+use Rattle.mg_space.specs.BelowLaws.{below_kept}
 use Rattle.mg_collecting.proofs.passing.drop_own.Goals as goal
 
 pub returns-in_err-drop_behind-clause-drops : goal.returns-in_err-drop_behind-clause-drops
@@ -37,3 +38,7 @@ returns-clause-drops g c = drop_done g.D.Disk.meaning c.args.store.now c.drop_be
     c.in_ok-drop_behind.ensures.fault c.drop_behind.new.batch c.in_ok-drop_behind.field-0
     c.in_ok-drop_behind.ensures.drops c.in-Some.field-0 c.in-Some.is c.change_batch.new.store
     c.in_ok-change_batch.ensures.changes
+
+pub change_batch-requires-clause-below : goal.change_batch-requires-clause-below
+change_batch-requires-clause-below g c = below_kept c.args.store.now.geometry c.drop_behind.new.store.geometry
+    c.drop_behind.new.batch.pages c.drop_behind.ensures.keeps.geometry c.drop_behind.ensures.whole

@@ -1,7 +1,7 @@
 use Rattle.std.proofs.Common.{ap, refl}
 use Rattle.mg_pool.specs.declared.pool.Pool.{Pool}
 use Rattle.mg_space.specs.declared.links.FireLinks.{FireLinks}
-use Rattle.mg_database.proofs.FinishingLemmas.{all_same, offline_fails, settled, settled_same, writing_fails}
+use Rattle.mg_database.proofs.FinishingLemmas.{all_same, all_within, offline_fails, settled, settled_same, settled_within, writing_fails}
 use Rattle.mg_database.proofs.finishing.finish.Goals as goal
 
 pub returns-in-Err-clause-ends : goal.returns-in-Err-clause-ends
@@ -28,3 +28,15 @@ pub returns-clause-same : goal.returns-clause-same
 returns-clause-same g c = settled_same g.D.Disk.meaning c.args.store.now c.write_all.new.store c.settle.new.self
     c.requires c.settle.ensures.pool c.in-Ok-write_all.ensures.0
     (ap (λ (s : Pool g.row.D.Denot FireLinks). s.geometry) c.settle.ensures.same) c.settle.ensures.disk
+
+pub returns-in-Err-clause-within : goal.returns-in-Err-clause-within
+returns-in-Err-clause-within g c = c.requires.within
+
+pub returns-in-Err-write_all-clause-within : goal.returns-in-Err-write_all-clause-within
+returns-in-Err-write_all-clause-within g c = all_within g.D.Disk.meaning c.args.store.now c.write_all.new.store
+    c.in-Err-write_all.fault c.in-Err-write_all.ensures
+
+pub returns-clause-within : goal.returns-clause-within
+returns-clause-within g c = settled_within g.D.Disk.meaning c.args.store.now c.write_all.new.store c.settle.new.self
+    c.settle.ensures.pool c.in-Ok-write_all.ensures.0
+    (ap (λ (s : Pool g.row.D.Denot FireLinks). s.geometry) c.settle.ensures.same)

@@ -9,6 +9,7 @@ use Rattle.mg_txlist.specs.Reading.{is_head_or_tip}
 use Rattle.mg_txlist.specs.ReadingLaws.{head_first}
 use Rattle.mg_txlist.specs.declared.list.TxList.{TxList}
 use Rattle.mg_database.proofs.LoadingLemmas.{catalog_lawful, front_read, list_alone, list_refused, memory_alone, memory_refused, memory_told, nobody_active, says_pages, space_up, table_alone, table_refused}
+use Rattle.mg_txlist.specs.TxList.{TipsAreBelow}
 use Rattle.mg_database.proofs.loading.load.Goals as goal
 
 pub returns-in-Err-load-clause-refused : goal.returns-in-Err-load-clause-refused
@@ -63,6 +64,8 @@ pub returns-clause-lawful : goal.returns-clause-lawful
 returns-clause-lawful g c = record {
   list = c.in-Ok-load.ensures.list;
   size_is = c.in-Ok-load.ensures.size ∙ ap (λ (x : Geometry). x.size) c.read_first.ensures.keeps.geometry;
+  tips = subst (λ (x : Geometry). TipsAreBelow x.limit c.in-Ok-load.list) c.read_first.ensures.keeps.geometry
+      c.in-Ok-load.ensures.tips;
   undrawn = c.in-Ok-load.ensures.fresh;
   idle = nobody_active c.in-Ok-load.list c.in-Ok-load.ensures.fresh;
   undecided = c.in-Ok-undecided.ensures;

@@ -1,20 +1,26 @@
-use Rattle.std.proofs.Common.{refl}
+use Rattle.std.proofs.Common.{◌≤◌, refl, subst, sym}
+use Rattle.mg_base.specs.declared.geometry.Geometry.{Geometry}
 use Rattle.mg_format.specs.FormatLaws.{empty_clean}
 use Rattle.mg_database.proofs.PreparingLemmas.{not_asked, not_held, not_prepared_as, prepared}
+use Rattle.mg_survey.specs.Survey.{new_pages}
 use Rattle.mg_database.proofs.preparing.prepare.Goals as goal
 
 pub returns-in-Err : goal.returns-in-Err
-returns-in-Err g c = not_asked g.D.Disk.meaning c.args.disk c.ask.new.disk c.in-Err.field-0 1
+returns-in-Err g c = not_asked g.D.Disk.meaning c.args.disk c.ask.new.disk c.args.limit c.in-Err.field-0 1
     c.of_pool.result c.in-Err.ensures.asks c.ask.ensures.same c.of_pool.ensures
 
 pub returns-in-Err-new : goal.returns-in-Err-new
-returns-in-Err-new g c = not_held g.D.Disk.meaning c.args.disk c.ask.new.disk c.in-Err-new.disk
+returns-in-Err-new g c = not_held g.D.Disk.meaning c.args.disk c.ask.new.disk c.in-Err-new.disk c.args.limit
     c.of_pool-in-Err-new.result c.in-Ok.ensures.asks.content c.ask.ensures.same c.in-Ok.ensures.asks.steady
     c.in-Err-new.ensures.err.0
     c.of_pool-in-Err-new.ensures
 
 pub make_if-requires-clause-clean : goal.make_if-requires-clause-clean
 make_if-requires-clause-clean g c = empty_clean c.in-Ok-new.store c.in-Ok-new.ensures.dirty
+
+pub make_if-requires-clause-room : goal.make_if-requires-clause-room
+make_if-requires-clause-room g c = subst (λ (x : Geometry). new_pages ≤ x.limit)
+    (sym c.in-Ok-new.ensures.geometry) c.in-Ok.ensures.survey.room
 
 pub returns-in-Ok-make_if : goal.returns-in-Ok-make_if
 returns-in-Ok-make_if g c = prepared g.D.Disk.meaning c.args.disk c.ask.new.disk c.args.limit

@@ -9,7 +9,7 @@ use Rattle.mg_base.specs.declared.bytes.Bytes.{Bytes}
 use Rattle.mg_base.specs.declared.geometry.Geometry.{Geometry}
 use Rattle.mg_space.specs.HandedLaws.{fault_up}
 use Rattle.mg_space.specs.Taking.{IsGeometry}
-use Rattle.mg_space.specs.View.{viewed}
+use Rattle.mg_space.specs.View.{AreWhole, viewed}
 use Rattle.mg_space.specs.ViewLaws.{keeps_itself, keeps_on}
 use Rattle.mg_database.specs.Tested.{AreDataPages, RefusesListed}
 use Rattle.mg_database.proofs.TestedLemmas.{as_started, handed_on, page_tested, page_untested}
@@ -86,8 +86,8 @@ table_data_page-requires-clause-geometry g c = subst IsGeometry (sym c.loop-plac
     c.requires.geometry
 
 pub table_data_page-requires-clause-whole : goal.table_data_page-requires-clause-whole
-table_data_page-requires-clause-whole g c = λ page bytes is. c.requires.whole page bytes is
-    ∙ ap (λ (x : Geometry). x.size) (sym c.loop-place.invariant.keeps.geometry)
+table_data_page-requires-clause-whole g c =
+    subst (λ (x : Geometry). AreWhole x c.args.batch.now.pages) (sym c.loop-place.invariant.keeps.geometry) c.requires.whole
 
 pub returns-in_err-table_data_page-clause-keeps : goal.returns-in_err-table_data_page-clause-keeps
 returns-in_err-table_data_page-clause-keeps g c = keeps_on g.D.Disk.meaning g.met.D.Disk.counts_now

@@ -1,6 +1,6 @@
 use Rattle.mg_image.specs.Form.{Pages}
 use Rattle.mg_space.specs.HandedLaws.{fault_same, fault_up}
-use Rattle.mg_space.specs.View.{viewed}
+use Rattle.mg_space.specs.View.{AreWhole, viewed}
 use Rattle.mg_database.specs.Tested.{AreDataPages, RefusesListed, RefusesTested}
 use Rattle.mg_database.proofs.TestedLemmas.{as_started, chain_untested, handed_on, listed_untested, table_read}
 use Rattle.mg_space.specs.ViewLaws.{keeps_on}
@@ -72,8 +72,8 @@ check_data_pages-requires-clause-geometry g c = subst IsGeometry (sym c.in_ok-ta
     c.requires.geometry
 
 pub check_data_pages-requires-clause-whole : goal.check_data_pages-requires-clause-whole
-check_data_pages-requires-clause-whole g c = λ page bytes is. c.requires.whole page bytes is
-    ∙ ap (λ (x : Geometry). x.size) (sym c.in_ok-table.ensures.keeps.geometry)
+check_data_pages-requires-clause-whole g c =
+    subst (λ (x : Geometry). AreWhole x c.args.batch.now.pages) (sym c.in_ok-table.ensures.keeps.geometry) c.requires.whole
 
 pub check_data_pages-requires-clause-online : goal.check_data_pages-requires-clause-online
 check_data_pages-requires-clause-online g c = c.in_ok-table.ensures.fault.1

@@ -52,8 +52,8 @@ returns-clause-whole g c =
     c.deref.ensures.value) ∙ (c.put_beside.ensures.len
     ∙ (ap (length {A = ℕ}) (c.deref_mut.ensures.value ∙ c.into_vec-bytes.ensures)
     ∙ c.in_ok-data_page.ensures.len)) in
-    whole_on c.args.store.now.geometry.size c.args.batch.now c.put.new.self c.args.page.0
-    c.deref.result.now c.requires.whole long c.in_ok-put.ensures.puts
+    whole_on c.args.store.now.geometry c.args.batch.now c.put.new.self c.args.page.0
+    c.deref.result.now c.requires.whole long c.in_ok-data_page.ensures.below c.in_ok-put.ensures.puts
 
 pub returns-clause-changes : goal.returns-clause-changes
 returns-clause-changes g c =
@@ -126,7 +126,7 @@ returns-in_err-put-clause-own g c = reads_memory c.from_residual-in_err-put.resu
     c.from_residual-in_err-put.ensures.1
 
 pub returns-in_err-put-clause-whole : goal.returns-in_err-put-clause-whole
-returns-in_err-put-clause-whole g c = whole_same c.args.store.now.geometry.size c.args.batch.now
+returns-in_err-put-clause-whole g c = whole_same c.args.store.now.geometry c.args.batch.now
     c.put.new.self c.requires.whole (ap (λ (b : Changed). b.pages) c.in_err-put.ensures.same)
 
 pub returns-in_err-put-clause-changes : goal.returns-in_err-put-clause-changes

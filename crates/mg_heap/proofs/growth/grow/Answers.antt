@@ -3,7 +3,7 @@ use Rattle.mg_heap.specs.Growth.{HasEntryRoom, RefusesGrowth}
 use Rattle.mg_space.specs.HandedLaws.{fault_same}
 use Rattle.mg_space.specs.ViewLaws.{tells_on, fault_on, keeps_on}
 use Rattle.mg_space.specs.View.{pool_answer}
-use Rattle.mg_heap.proofs.TableLemmas.{whole_before, geometry_later, handed_on, whole_later}
+use Rattle.mg_heap.proofs.TableLemmas.{below_later, whole_before, geometry_later, handed_on, whole_later}
 use Rattle.mg_heap.proofs.GrowthLemmas.{grows_in_last, grows_in_new, no_room}
 use Rattle.mg_pointer.specs.PointerPage.{IsPointerPage}
 use Rattle.mg_heap.proofs.HandedLemmas.{alone_read, length_as}
@@ -141,3 +141,11 @@ list_in_new-requires-clause-len g c = length_as c.deref_mut-else-has_entry_room.
 pub list_in_last-requires-clause-room : goal.list_in_last-requires-clause-room
 list_in_last-requires-clause-room g c = subst HasEntryRoom (c.deref.ensures.value ∙ sym
     c.deref_mut.ensures.value) (c.has_entry_room.ensures.0 c.if-has_entry_room.true)
+
+pub list_in_last-requires-clause-below : goal.list_in_last-requires-clause-below
+list_in_last-requires-clause-below g c = below_later g.D.Disk.meaning c.args.store.now
+    c.pointer_page.new.store c.in_ok-pointer_page.ensures.keeps c.args.q.0 c.in_ok-pointer_page.ensures.below
+
+pub list_in_new-requires-clause-below : goal.list_in_new-requires-clause-below
+list_in_new-requires-clause-below g c = below_later g.D.Disk.meaning c.args.store.now
+    c.pointer_page.new.store c.in_ok-pointer_page.ensures.keeps c.args.q.0 c.in_ok-pointer_page.ensures.below

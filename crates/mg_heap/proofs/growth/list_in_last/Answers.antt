@@ -2,6 +2,7 @@ use Rattle.std.proofs.Common.{◌∙◌, ap}
 use Rattle.mg_pool.specs.Batch.{Changed}
 use Rattle.mg_heap.proofs.GrowthLemmas.{makes_as, on_true, orders_as}
 use Rattle.mg_heap.specs.GrowthLaws.{whole_made, whole_same, whole_taken}
+use Rattle.mg_space.specs.BelowLaws.{taken_below}
 use Rattle.mg_space.specs.HandedLaws.{fault_memory, fault_same, out_of_memory}
 use Rattle.mg_space.specs.ViewLaws.{whole_on}
 use Rattle.mg_base.specs.declared.numbers.PageNo.{PageNo}
@@ -13,35 +14,37 @@ use Rattle.mg_heap.proofs.growth.list_in_last.Goals as goal
 
 pub returns-in_err-order_to-clause-whole : goal.returns-in_err-order_to-clause-whole
 returns-in_err-order_to-clause-whole g c =
-    let size = c.args.store.now.geometry.size in
+    let geometry = c.args.store.now.geometry in
     let adds = on_true c.add_entry.result (c.add_entry.ensures.room.1 c.requires.room)
     c.add_entry.ensures.added in
-    whole_same size c.put.new.self c.order_to.new.batch
-    (whole_on size c.make_data.new.batch c.put.new.self c.args.q.0 c.add_entry.new.b
-    (whole_made size c.take_page.new.batch c.make_data.new.batch c.args.owner.0 c.args.place
+    whole_same geometry c.put.new.self c.order_to.new.batch
+    (whole_on geometry c.make_data.new.batch c.put.new.self c.args.q.0 c.add_entry.new.b
+    (whole_made geometry c.take_page.new.batch c.make_data.new.batch c.args.owner.0 c.args.place
     c.in_ok-n.n.0 c.in_ok-bytes.bytes.items
     (whole_taken c.args.store.now.geometry c.args.batch.now c.take_page.new.batch c.in_ok-n.n.0
     c.requires.whole c.in_ok-n.ensures.puts)
+    (taken_below c.args.store.now.geometry c.in_ok-n.n.0 c.in_ok-n.ensures.puts.below)
     (makes_as c.take_page.new.store.geometry c.args.store.now.geometry c.take_page.new.batch
     c.make_data.new.batch c.args.owner.0 c.args.place c.in_ok-n.n.0 c.in_ok-bytes.bytes.items
     c.in_ok-n.ensures.keeps.geometry c.in_ok-bytes.ensures.made))
-    (adds.len ∙ c.requires.len) c.in_ok-put.ensures.puts) c.in_err-order_to.ensures.pages
+    (adds.len ∙ c.requires.len) c.requires.below c.in_ok-put.ensures.puts) c.in_err-order_to.ensures.pages
 
 pub returns-clause-whole : goal.returns-clause-whole
 returns-clause-whole g c =
-    let size = c.args.store.now.geometry.size in
+    let geometry = c.args.store.now.geometry in
     let adds = on_true c.add_entry.result (c.add_entry.ensures.room.1 c.requires.room)
     c.add_entry.ensures.added in
-    whole_same size c.put.new.self c.order_to.new.batch
-    (whole_on size c.make_data.new.batch c.put.new.self c.args.q.0 c.add_entry.new.b
-    (whole_made size c.take_page.new.batch c.make_data.new.batch c.args.owner.0 c.args.place
+    whole_same geometry c.put.new.self c.order_to.new.batch
+    (whole_on geometry c.make_data.new.batch c.put.new.self c.args.q.0 c.add_entry.new.b
+    (whole_made geometry c.take_page.new.batch c.make_data.new.batch c.args.owner.0 c.args.place
     c.in_ok-n.n.0 c.in_ok-bytes.bytes.items
     (whole_taken c.args.store.now.geometry c.args.batch.now c.take_page.new.batch c.in_ok-n.n.0
     c.requires.whole c.in_ok-n.ensures.puts)
+    (taken_below c.args.store.now.geometry c.in_ok-n.n.0 c.in_ok-n.ensures.puts.below)
     (makes_as c.take_page.new.store.geometry c.args.store.now.geometry c.take_page.new.batch
     c.make_data.new.batch c.args.owner.0 c.args.place c.in_ok-n.n.0 c.in_ok-bytes.bytes.items
     c.in_ok-n.ensures.keeps.geometry c.in_ok-bytes.ensures.made))
-    (adds.len ∙ c.requires.len) c.in_ok-put.ensures.puts) c.in_ok-order_to.ensures.pages
+    (adds.len ∙ c.requires.len) c.requires.below c.in_ok-put.ensures.puts) c.in_ok-order_to.ensures.pages
 
 pub returns-clause-lists : goal.returns-clause-lists
 returns-clause-lists g c = λ image tells. record {
@@ -63,19 +66,20 @@ returns-clause-lists g c = λ image tells. record {
 }
 
 pub returns-in_err-bytes-clause-whole : goal.returns-in_err-bytes-clause-whole
-returns-in_err-bytes-clause-whole g c = whole_same c.args.store.now.geometry.size
+returns-in_err-bytes-clause-whole g c = whole_same c.args.store.now.geometry
     c.take_page.new.batch c.make_data.new.batch
     (whole_taken c.args.store.now.geometry c.args.batch.now c.take_page.new.batch c.in_ok-n.n.0
     c.requires.whole c.in_ok-n.ensures.puts)
     (ap (λ (b : Changed). b.pages) c.in_err-bytes.ensures.same)
 
 pub returns-in_err-put-clause-whole : goal.returns-in_err-put-clause-whole
-returns-in_err-put-clause-whole g c = whole_same c.args.store.now.geometry.size
+returns-in_err-put-clause-whole g c = whole_same c.args.store.now.geometry
     c.make_data.new.batch c.put.new.self
-    (whole_made c.args.store.now.geometry.size c.take_page.new.batch c.make_data.new.batch
+    (whole_made c.args.store.now.geometry c.take_page.new.batch c.make_data.new.batch
     c.args.owner.0 c.args.place c.in_ok-n.n.0 c.in_ok-bytes.bytes.items
     (whole_taken c.args.store.now.geometry c.args.batch.now c.take_page.new.batch c.in_ok-n.n.0
     c.requires.whole c.in_ok-n.ensures.puts)
+    (taken_below c.args.store.now.geometry c.in_ok-n.n.0 c.in_ok-n.ensures.puts.below)
     (makes_as c.take_page.new.store.geometry c.args.store.now.geometry c.take_page.new.batch
     c.make_data.new.batch c.args.owner.0 c.args.place c.in_ok-n.n.0 c.in_ok-bytes.bytes.items
     c.in_ok-n.ensures.keeps.geometry c.in_ok-bytes.ensures.made))
@@ -94,7 +98,7 @@ returns-in_err-n-clause-own g c = alone_same PageNo c.from_residual.result c.in_
     c.from_residual.ensures.0 c.from_residual.ensures.1 c.in_err-n.ensures.own
 
 pub returns-in_err-n-clause-whole : goal.returns-in_err-n-clause-whole
-returns-in_err-n-clause-whole g c = whole_same c.args.store.now.geometry.size c.args.batch.now
+returns-in_err-n-clause-whole g c = whole_same c.args.store.now.geometry c.args.batch.now
     c.take_page.new.batch c.requires.whole (ap (λ (b : Changed). b.pages) c.in_err-n.ensures.same)
 
 pub returns-in_err-n-clause-lists : goal.returns-in_err-n-clause-lists

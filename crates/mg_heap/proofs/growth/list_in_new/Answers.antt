@@ -10,51 +10,54 @@ use Rattle.mg_heap.proofs.TableLemmas.{geometry_later, handed_on}
 use Rattle.mg_heap.proofs.growth.list_in_new.Goals as goal
 
 pub returns-in_err-put-clause-whole : goal.returns-in_err-put-clause-whole
-returns-in_err-put-clause-whole g c = whole_same c.args.store.now.geometry.size
+returns-in_err-put-clause-whole g c = whole_same c.args.store.now.geometry
     c.make_pointer.new.batch c.put.new.self
-    (whole_begun c.args.store.now.geometry.size c.make_data.new.batch c.make_pointer.new.batch
+    (whole_begun c.args.store.now.geometry c.make_data.new.batch c.make_pointer.new.batch
     c.args.owner.0 c.args.at.pointer c.in_ok-taken.taken.first.0 c.in_ok-taken.taken.second.0
-    (whole_made c.args.store.now.geometry.size c.take_two.new.batch c.make_data.new.batch
+    (whole_made c.args.store.now.geometry c.take_two.new.batch c.make_data.new.batch
     c.args.owner.0 c.args.at.data c.in_ok-taken.taken.second.0 c.in_ok-bytes.bytes.items
-    c.in_ok-taken.ensures.whole
+    c.in_ok-taken.ensures.whole c.in_ok-taken.ensures.below.1
     (makes_as c.take_two.new.store.geometry c.args.store.now.geometry c.take_two.new.batch
     c.make_data.new.batch c.args.owner.0 c.args.at.data c.in_ok-taken.taken.second.0
-    c.in_ok-bytes.bytes.items c.in_ok-taken.ensures.keeps.geometry c.in_ok-bytes.ensures.made))
+    c.in_ok-bytes.bytes.items c.in_ok-taken.ensures.keeps.geometry c.in_ok-bytes.ensures.made)) c.in_ok-taken.ensures.below.0
     (pointer_as c.take_two.new.store.geometry c.args.store.now.geometry c.make_data.new.batch
     c.make_pointer.new.batch c.args.owner.0 c.args.at.pointer c.in_ok-taken.taken.first.0
     c.in_ok-taken.taken.second.0 c.in_ok-taken.ensures.keeps.geometry
     c.in_ok-make_pointer.ensures.made)) (ap (λ (b : Changed). b.pages) c.in_err-put.ensures.same)
 
 pub returns-in_err-order_to-clause-whole : goal.returns-in_err-order_to-clause-whole
-returns-in_err-order_to-clause-whole g c = whole_same c.args.store.now.geometry.size c.put.new.self
+returns-in_err-order_to-clause-whole g c = whole_same c.args.store.now.geometry c.put.new.self
     c.order_to.new.batch (
     whole_linked c.args.store.now.geometry c.take_two.new.store.geometry
     c.take_two.new.batch c.make_data.new.batch c.make_pointer.new.batch c.put.new.self c.args.owner.0
     c.args.at.data c.args.at.pointer c.args.q.0 c.in_ok-taken.taken.first.0
     c.in_ok-taken.taken.second.0 c.in_ok-bytes.bytes.items c.args.pointer.now c.set_next.new.b
-    c.in_ok-taken.ensures.keeps.geometry c.in_ok-taken.ensures.whole c.in_ok-bytes.ensures.made
+    c.in_ok-taken.ensures.keeps.geometry c.in_ok-taken.ensures.whole c.in_ok-taken.ensures.below.1
+    c.in_ok-taken.ensures.below.0 c.requires.below c.in_ok-bytes.ensures.made
     c.in_ok-make_pointer.ensures.made c.requires.len c.set_next.ensures c.in_ok-put.ensures.puts)
     c.in_err-order_to.ensures.pages
 
 pub returns-in_err-order_to-2-clause-whole : goal.returns-in_err-order_to-2-clause-whole
-returns-in_err-order_to-2-clause-whole g c = whole_same c.args.store.now.geometry.size c.put.new.self
+returns-in_err-order_to-2-clause-whole g c = whole_same c.args.store.now.geometry c.put.new.self
     c.order_to-2.new.batch (
     whole_linked c.args.store.now.geometry c.take_two.new.store.geometry
     c.take_two.new.batch c.make_data.new.batch c.make_pointer.new.batch c.put.new.self c.args.owner.0
     c.args.at.data c.args.at.pointer c.args.q.0 c.in_ok-taken.taken.first.0
     c.in_ok-taken.taken.second.0 c.in_ok-bytes.bytes.items c.args.pointer.now c.set_next.new.b
-    c.in_ok-taken.ensures.keeps.geometry c.in_ok-taken.ensures.whole c.in_ok-bytes.ensures.made
+    c.in_ok-taken.ensures.keeps.geometry c.in_ok-taken.ensures.whole c.in_ok-taken.ensures.below.1
+    c.in_ok-taken.ensures.below.0 c.requires.below c.in_ok-bytes.ensures.made
     c.in_ok-make_pointer.ensures.made c.requires.len c.set_next.ensures c.in_ok-put.ensures.puts)
     (c.in_err-order_to-2.ensures.pages ∙ c.in_ok-order_to.ensures.pages)
 
 pub returns-clause-whole : goal.returns-clause-whole
-returns-clause-whole g c = whole_same c.args.store.now.geometry.size c.put.new.self
+returns-clause-whole g c = whole_same c.args.store.now.geometry c.put.new.self
     c.order_to-2.new.batch (
     whole_linked c.args.store.now.geometry c.take_two.new.store.geometry
     c.take_two.new.batch c.make_data.new.batch c.make_pointer.new.batch c.put.new.self c.args.owner.0
     c.args.at.data c.args.at.pointer c.args.q.0 c.in_ok-taken.taken.first.0
     c.in_ok-taken.taken.second.0 c.in_ok-bytes.bytes.items c.args.pointer.now c.set_next.new.b
-    c.in_ok-taken.ensures.keeps.geometry c.in_ok-taken.ensures.whole c.in_ok-bytes.ensures.made
+    c.in_ok-taken.ensures.keeps.geometry c.in_ok-taken.ensures.whole c.in_ok-taken.ensures.below.1
+    c.in_ok-taken.ensures.below.0 c.requires.below c.in_ok-bytes.ensures.made
     c.in_ok-make_pointer.ensures.made c.requires.len c.set_next.ensures c.in_ok-put.ensures.puts)
     (c.in_ok-order_to-2.ensures.pages ∙ c.in_ok-order_to.ensures.pages)
 
@@ -100,16 +103,16 @@ returns-clause-lists g c = λ image tells.
     )
 
 pub returns-in_err-bytes-clause-whole : goal.returns-in_err-bytes-clause-whole
-returns-in_err-bytes-clause-whole g c = whole_same c.args.store.now.geometry.size
+returns-in_err-bytes-clause-whole g c = whole_same c.args.store.now.geometry
     c.take_two.new.batch c.make_data.new.batch c.in_ok-taken.ensures.whole
     (ap (λ (b : Changed). b.pages) c.in_err-bytes.ensures.same)
 
 pub returns-in_err-make_pointer-clause-whole : goal.returns-in_err-make_pointer-clause-whole
-returns-in_err-make_pointer-clause-whole g c = whole_same c.args.store.now.geometry.size
+returns-in_err-make_pointer-clause-whole g c = whole_same c.args.store.now.geometry
     c.make_data.new.batch c.make_pointer.new.batch
-    (whole_made c.args.store.now.geometry.size c.take_two.new.batch c.make_data.new.batch
+    (whole_made c.args.store.now.geometry c.take_two.new.batch c.make_data.new.batch
     c.args.owner.0 c.args.at.data c.in_ok-taken.taken.second.0 c.in_ok-bytes.bytes.items
-    c.in_ok-taken.ensures.whole
+    c.in_ok-taken.ensures.whole c.in_ok-taken.ensures.below.1
     (makes_as c.take_two.new.store.geometry c.args.store.now.geometry c.take_two.new.batch
     c.make_data.new.batch c.args.owner.0 c.args.at.data c.in_ok-taken.taken.second.0
     c.in_ok-bytes.bytes.items c.in_ok-taken.ensures.keeps.geometry c.in_ok-bytes.ensures.made))

@@ -1,5 +1,6 @@
 use Rattle.std.proofs.Common.{◌∙◌, ap, inr, inl}
 use Rattle.mg_base.specs.declared.numbers.PageNo.{PageNo}
+use Rattle.mg_space.specs.BelowLaws.{taken_below}
 use Rattle.mg_space.specs.HandedLaws.{fault_same, fault_up, no_answer}
 use Rattle.mg_space.specs.ViewLaws.{keeps_on, tells_on}
 use Rattle.mg_pool.specs.Batch.{Changed}
@@ -7,7 +8,7 @@ use Rattle.mg_heap.specs.Growth.{RefusesTwo}
 use Rattle.mg_heap.specs.GrowthLaws.{whole_same, whole_taken}
 use Rattle.mg_heap.proofs.GrowthLemmas.{refuses_on}
 use Rattle.mg_heap.specs.RoomLaws.{bits_on, takes_on}
-use Rattle.mg_heap.proofs.TableLemmas.{handed_on, whole_later, geometry_later}
+use Rattle.mg_heap.proofs.TableLemmas.{below_before, handed_on, whole_later, geometry_later}
 use Rattle.mg_heap.proofs.HandedLemmas.{alone_same, taken_small}
 use Rattle.mg_heap.proofs.growth.take_two.Goals as goal
 
@@ -71,7 +72,7 @@ take_page-requires-2-clause-whole g c = whole_later g.D.Disk.meaning c.args.stor
     c.in_ok-first.first.0 c.requires.whole c.in_ok-first.ensures.puts)
 
 pub returns-in_err-second-clause-whole : goal.returns-in_err-second-clause-whole
-returns-in_err-second-clause-whole g c = whole_same c.args.store.now.geometry.size
+returns-in_err-second-clause-whole g c = whole_same c.args.store.now.geometry
     c.take_page.new.batch c.take_page-2.new.batch
     (whole_taken c.args.store.now.geometry c.args.batch.now c.take_page.new.batch
     c.in_ok-first.first.0 c.requires.whole c.in_ok-first.ensures.puts)
@@ -99,7 +100,7 @@ returns-in_err-first-clause-own g c = alone_same PageNo c.from_residual.result c
     c.from_residual.ensures.0 c.from_residual.ensures.1 c.in_err-first.ensures.own
 
 pub returns-in_err-first-clause-whole : goal.returns-in_err-first-clause-whole
-returns-in_err-first-clause-whole g c = whole_same c.args.store.now.geometry.size c.args.batch.now
+returns-in_err-first-clause-whole g c = whole_same c.args.store.now.geometry c.args.batch.now
     c.take_page.new.batch c.requires.whole (ap (λ (b : Changed). b.pages) c.in_err-first.ensures.same)
 
 pub returns-in_err-first-clause-small : goal.returns-in_err-first-clause-small
@@ -135,3 +136,18 @@ take_page-requires-2-clause-pool g c = c.in_ok-first.ensures.keeps.pool
 pub take_page-requires-2-clause-geometry : goal.take_page-requires-2-clause-geometry
 take_page-requires-2-clause-geometry g c = geometry_later g.D.Disk.meaning c.args.store.now
     c.take_page.new.store c.in_ok-first.ensures.keeps c.requires.geometry
+
+pub returns-in_err-first-clause-below : goal.returns-in_err-first-clause-below
+returns-in_err-first-clause-below g c = no_answer _ c.from_residual.result c.from_residual.ensures.0
+
+pub returns-in_err-second-clause-below : goal.returns-in_err-second-clause-below
+returns-in_err-second-clause-below g c = no_answer _ c.from_residual-in_err-second.result
+    c.from_residual-in_err-second.ensures.0
+
+pub returns-clause-below : goal.returns-clause-below
+returns-clause-below g c = (
+  taken_below c.args.store.now.geometry c.in_ok-first.first.0 c.in_ok-first.ensures.puts.below,
+  below_before g.D.Disk.meaning c.args.store.now c.take_page.new.store c.in_ok-first.ensures.keeps
+      c.in_ok-second.second.0
+      (taken_below c.take_page.new.store.geometry c.in_ok-second.second.0 c.in_ok-second.ensures.puts.below),
+)

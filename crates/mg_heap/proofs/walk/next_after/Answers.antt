@@ -2,7 +2,8 @@ use Rattle.std.proofs.Common.{◌≡◌, ◌∙◌, ◌+◌, ℕ, Some, ap, inl,
 use Rattle.std.specs.Prelude.{MatchResult}
 use Rattle.mg_image.specs.Form.{Pages}
 use Rattle.mg_space.specs.HandedLaws.{fault_same}
-use Rattle.mg_space.specs.View.{viewed, pool_answer}
+use Rattle.mg_base.specs.declared.geometry.Geometry.{Geometry}
+use Rattle.mg_space.specs.View.{AreWhole, viewed, pool_answer}
 use Rattle.mg_space.specs.ViewLaws.{keeps_on, fault_on}
 use Rattle.mg_heap.specs.HandedLaws.{reads_same}
 use Rattle.mg_heap.specs.Walk.{GivesBehind, RefusesBehind, RefusesNext}
@@ -75,3 +76,7 @@ first_behind-requires-clause-geometry g c = geometry_later g.D.Disk.meaning c.ar
 pub first_behind-requires-clause-whole : goal.first_behind-requires-clause-whole
 first_behind-requires-clause-whole g c = whole_later g.D.Disk.meaning c.args.store.now c.hold_data.new.store
     c.in_ok-hold_data.ensures.keeps c.args.batch.now.pages c.requires.whole
+
+pub lent-page-requires-clause-whole : goal.lent-page-requires-clause-whole
+lent-page-requires-clause-whole g c = subst (λ (k : Geometry). AreWhole k c.args.batch.now.pages)
+    (sym c.in_ok-hold_data.ensures.keeps.geometry) c.requires.whole

@@ -8,6 +8,7 @@ use Rattle.mg_space.specs.declared.fault.SpaceFault.{SpaceFault}
 use Rattle.mg_row_writes.specs.Changing.{FailsFirst, not_filled, nothing_yet}
 use Rattle.mg_row_writes.proofs.FindLemmas.{handed_on}
 use Rattle.mg_row_writes.proofs.ChangeLemmas.{not_filled_by, own_batch}
+use Rattle.mg_space.specs.BelowLaws.{below_kept}
 use Rattle.mg_row_writes.proofs.changing.make_first.Goals as goal
 
 pub returns-in_err-first-clause-makes : goal.returns-in_err-first-clause-makes
@@ -28,3 +29,7 @@ returns-clause-makes g c = own_batch g.D.Disk.meaning c.args.store.now c.first.n
     c.new-batch.ensures.pages c.new-batch.ensures.orders (λ image batch given. given)
     c.in_ok-first.ensures.keeps c.in_ok-first.ensures.fault c.in_ok-first.ensures.makes
     c.change_batch.ensures.changes
+
+pub change_batch-requires-clause-below : goal.change_batch-requires-clause-below
+change_batch-requires-clause-below g c = below_kept c.args.store.now.geometry c.first.new.store.geometry
+    c.first.new.batch.pages c.first.ensures.keeps.geometry c.first.ensures.whole

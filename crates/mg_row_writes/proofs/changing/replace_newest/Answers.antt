@@ -8,6 +8,7 @@ use Rattle.mg_space.specs.declared.fault.SpaceFault.{SpaceFault}
 use Rattle.mg_row_writes.specs.Changing.{FailsReplacing, not_filled, nothing_yet}
 use Rattle.mg_row_writes.proofs.FindLemmas.{handed_on}
 use Rattle.mg_row_writes.proofs.ChangeLemmas.{not_filled_by, own_batch}
+use Rattle.mg_space.specs.BelowLaws.{below_kept}
 use Rattle.mg_row_writes.proofs.changing.replace_newest.Goals as goal
 
 pub returns-in_err-replace_own-clause-replaces : goal.returns-in_err-replace_own-clause-replaces
@@ -28,3 +29,7 @@ returns-clause-replaces g c = own_batch g.D.Disk.meaning c.args.store.now c.repl
     c.new-batch.ensures.pages c.new-batch.ensures.orders (λ image batch given. given)
     c.in_ok-replace_own.ensures.keeps c.in_ok-replace_own.ensures.fault c.in_ok-replace_own.ensures.replaces
     c.change_batch.ensures.changes
+
+pub change_batch-requires-clause-below : goal.change_batch-requires-clause-below
+change_batch-requires-clause-below g c = below_kept c.args.store.now.geometry c.replace_own.new.store.geometry
+    c.replace_own.new.batch.pages c.replace_own.ensures.keeps.geometry c.replace_own.ensures.whole

@@ -8,6 +8,7 @@ use Rattle.mg_space.specs.declared.fault.SpaceFault.{SpaceFault}
 use Rattle.mg_row_writes.specs.Changing.{FailsTakingOut, not_filled, nothing_yet}
 use Rattle.mg_row_writes.proofs.FindLemmas.{handed_on}
 use Rattle.mg_row_writes.proofs.ChangeLemmas.{data_alone, not_filled_by, own_batch}
+use Rattle.mg_space.specs.BelowLaws.{below_kept}
 use Rattle.mg_row_writes.proofs.changing.take_newest_out.Goals as goal
 
 pub returns-in_err-back_out-clause-takes : goal.returns-in_err-back_out-clause-takes
@@ -28,3 +29,7 @@ returns-clause-takes g c = own_batch g.D.Disk.meaning c.args.store.now c.back_ou
     c.new-batch.ensures.pages c.new-batch.ensures.orders (λ image batch given. given)
     c.in_ok-back_out.ensures.keeps c.in_ok-back_out.ensures.fault c.in_ok-back_out.ensures.takes
     c.change_batch.ensures.changes
+
+pub change_batch-requires-clause-below : goal.change_batch-requires-clause-below
+change_batch-requires-clause-below g c = below_kept c.args.store.now.geometry c.back_out.new.store.geometry
+    c.back_out.new.batch.pages c.back_out.ensures.keeps.geometry c.back_out.ensures.whole

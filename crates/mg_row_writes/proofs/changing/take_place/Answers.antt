@@ -8,6 +8,7 @@ use Rattle.mg_space.specs.declared.fault.SpaceFault.{SpaceFault}
 use Rattle.mg_row_writes.specs.Changing.{FailsPlace, not_changed, nothing_yet}
 use Rattle.mg_row_writes.proofs.FindLemmas.{handed_on}
 use Rattle.mg_row_writes.proofs.ChangeLemmas.{not_filled_by, nothing}
+use Rattle.mg_space.specs.BelowLaws.{below_kept}
 use Rattle.mg_row_writes.proofs.changing.take_place.Goals as goal
 
 pub returns-in_err-at-clause-takes : goal.returns-in_err-at-clause-takes
@@ -42,3 +43,7 @@ returns-clause-takes g c = record {
       (c.in_ok-at.ensures.gives image tells);
   changed = c.in_ok-change_batch.ensures.changes;
 }
+
+pub change_batch-requires-clause-below : goal.change_batch-requires-clause-below
+change_batch-requires-clause-below g c = below_kept c.args.store.now.geometry c.spot.new.store.geometry
+    c.spot.new.batch.pages c.spot.ensures.keeps.geometry c.spot.ensures.whole

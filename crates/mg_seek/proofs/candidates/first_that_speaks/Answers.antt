@@ -4,7 +4,7 @@ use Rattle.std.proofs.lemmas.Bool.{false≢true}
 use Rattle.mg_base.specs.declared.numbers.RecId.{RecId}
 use Rattle.mg_image.specs.Form.{Pages}
 use Rattle.mg_space.specs.HandedLaws.{fault_up}
-use Rattle.mg_space.specs.View.{viewed}
+use Rattle.mg_space.specs.View.{AreWhole, viewed}
 use Rattle.mg_space.specs.ViewLaws.{keeps_on}
 use Rattle.mg_heap.specs.HandedLaws.{reads_same}
 use Rattle.mg_seek.specs.Candidates.{FoundAmong, RefusesCandidate, RefusesCandidates, SpeaksOf}
@@ -76,8 +76,8 @@ pub speaks_of-requires-clause-geometry : goal.speaks_of-requires-clause-geometry
 speaks_of-requires-clause-geometry g c = subst IsGeometry (sym c.loop-rec.invariant.keeps.geometry) c.requires.geometry
 
 pub speaks_of-requires-clause-whole : goal.speaks_of-requires-clause-whole
-speaks_of-requires-clause-whole g c = λ page bytes is. c.requires.whole page bytes is
-    ∙ ap (λ (x : Geometry). x.size) (sym c.loop-rec.invariant.keeps.geometry)
+speaks_of-requires-clause-whole g c =
+    subst (λ (x : Geometry). AreWhole x c.args.batch.now.pages) (sym c.loop-rec.invariant.keeps.geometry) c.requires.whole
 
 pub speaks_of-requires-clause-columns : goal.speaks_of-requires-clause-columns
 speaks_of-requires-clause-columns g c = c.requires.columns

@@ -1,7 +1,7 @@
 use Rattle.std.proofs.Common.{◌≡◌, ◌∙◌, ◌++◌, ℕ, arith, refl, get_or, ap, subst, sym}
 use Rattle.mg_image.specs.Form.{Pages}
 use Rattle.mg_space.specs.HandedLaws.{fault_up}
-use Rattle.mg_space.specs.View.{viewed}
+use Rattle.mg_space.specs.View.{AreWhole, viewed}
 use Rattle.mg_space.specs.ViewLaws.{keeps_on}
 use Rattle.mg_heap.specs.HandedLaws.{reads_same}
 use Rattle.mg_heap.specs.Walk.{RefusesTableData, RefusesWalkOf}
@@ -58,8 +58,8 @@ pub add_page-requires-clause-geometry : goal.add_page-requires-clause-geometry
 add_page-requires-clause-geometry g c = subst IsGeometry (sym c.loop-place.invariant.keeps.geometry) c.requires.geometry
 
 pub add_page-requires-clause-whole : goal.add_page-requires-clause-whole
-add_page-requires-clause-whole g c = λ page bytes is. c.requires.whole page bytes is
-    ∙ ap (λ (x : Geometry). x.size) (sym c.loop-place.invariant.keeps.geometry)
+add_page-requires-clause-whole g c =
+    subst (λ (x : Geometry). AreWhole x c.args.batch.now.pages) (sym c.loop-place.invariant.keeps.geometry) c.requires.whole
 
 pub returns-in_err-add_page-clause-keeps : goal.returns-in_err-add_page-clause-keeps
 returns-in_err-add_page-clause-keeps g c = keeps_on g.D.Disk.meaning g.met.D.Disk.counts_now c.args.store.now c.loop-place.store

@@ -2,7 +2,7 @@ use Rattle.std.proofs.Common.{arith, ◌≡◌, ◌∙◌, ℕ, List, [], ◌++�
 use Rattle.mg_base.specs.declared.numbers.RecId.{RecId}
 use Rattle.mg_image.specs.Form.{Pages, Row}
 use Rattle.mg_space.specs.HandedLaws.{fault_up}
-use Rattle.mg_space.specs.View.{viewed}
+use Rattle.mg_space.specs.View.{AreWhole, viewed}
 use Rattle.mg_space.specs.ViewLaws.{keeps_itself, keeps_on}
 use Rattle.mg_heap.specs.HandedLaws.{reads_same}
 use Rattle.mg_seek.specs.Refusals.{RefusesRecord}
@@ -74,8 +74,8 @@ pub add_row-requires-clause-geometry : goal.add_row-requires-clause-geometry
 add_row-requires-clause-geometry g c = subst IsGeometry (sym c.loop-rec.invariant.keeps.geometry) c.requires.geometry
 
 pub add_row-requires-clause-whole : goal.add_row-requires-clause-whole
-add_row-requires-clause-whole g c = λ page bytes is. c.requires.whole page bytes is
-    ∙ ap (λ (x : Geometry). x.size) (sym c.loop-rec.invariant.keeps.geometry)
+add_row-requires-clause-whole g c =
+    subst (λ (x : Geometry). AreWhole x c.args.batch.now.pages) (sym c.loop-rec.invariant.keeps.geometry) c.requires.whole
 
 pub add_row-requires-clause-columns : goal.add_row-requires-clause-columns
 add_row-requires-clause-columns g c = c.requires.columns

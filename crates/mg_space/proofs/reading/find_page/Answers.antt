@@ -53,7 +53,7 @@ returns-in-Some g c =
       keeps = keeps_itself m c.args.store.now c.requires.pool;
       fault = c.in_ok-online.ensures.fault;
       refusal = tt;
-      found = c.requires.whole c.args.page.0 copy there;
+      found = (c.requires.whole c.args.page.0 copy there).0;
       read = batch_read (content_in c.args.batch.now.pages c.args.page.0)
           (resident c.args.store.now c.args.page.0) copy there;
       seen = λ image tells.

@@ -1,8 +1,8 @@
-use Rattle.std.proofs.Common.{◌≡◌, ◌+◌, ◌*◌, ℕ, ap, arith, drop, length, refl}
+use Rattle.std.proofs.Common.{◌≡◌, ◌+◌, ◌*◌, ◌∙◌, ℕ, ap, arith, drop, length, refl}
 use Rattle.std.specs.declared.alloc.Global.{Global}
 use Rattle.std.specs.declared.vec.Vec.{Vec}
 use Rattle.mg_space.specs.HandedLaws.{out_of_memory, own_as, told_as}
-use Rattle.mg_space.specs.Taking.{RefusesRegion}
+use Rattle.mg_space.specs.Taking.{RefusesRegion, taking_limit}
 use Rattle.mg_space.specs.View.{viewed}
 use Rattle.mg_space.specs.ViewLaws.{viewed_else, viewed_here}
 use Rattle.mg_space.proofs.HandedLemmas.{no_ok, on_err, refused_as, told_online}
@@ -11,8 +11,8 @@ use Rattle.mg_space.proofs.taking.take_in.Goals as goal
 
 pub returns-in_default-clause-takes : goal.returns-in_default-clause-takes
 returns-in_default-clause-takes g c = λ image tells. none_in c.args.store.now.geometry
-    c.geometry-geometry.result c.args.region c.args.bits c.min-below.result c.requires.geometry
-    c.geometry-geometry.ensures c.requires.bits c.min-below.ensures
+    c.taking_limit.result c.args.region c.args.bits c.min-below.result c.requires.geometry
+    (c.taking_limit.ensures ∙ ap taking_limit c.geometry-geometry.ensures) c.requires.bits c.min-below.ensures
     (viewed c.args.store.now image c.args.batch.now) c.in_ok-page.page.items c.deref_mut.result.now
     c.deref_mut.ensures.value (c.in_ok-page.ensures.seen image tells) c.in_default.ensures.bit
 
@@ -21,8 +21,8 @@ returns-clause-puts g c =
     let len : c.in_ok-page.page.len ≡ length c.take_bit.new.page =
     omega (arith, c.take_bit.ensures.len, c.deref_mut.ensures.len) in
     puts_in c.args.store.now.geometry
-    c.geometry-geometry.result c.args.region c.args.bits c.min-below.result c.requires.geometry
-    c.geometry-geometry.ensures c.requires.bits c.min-below.ensures
+    c.taking_limit.result c.args.region c.args.bits c.min-below.result c.requires.geometry
+    (c.taking_limit.ensures ∙ ap taking_limit c.geometry-geometry.ensures) c.requires.bits c.min-below.ensures
     c.in_ok-page.page.items c.deref_mut.result.now c.take_bit.new.page c.deref.result.now
     c.in-Some.bit c.args.batch.now c.put.new.self c.deref_mut.ensures.value
     (written_back c.in_ok-page.page.len c.take_bit.new.page
@@ -36,8 +36,8 @@ returns-clause-takes g c = λ image tells.
     let len : c.in_ok-page.page.len ≡ length c.take_bit.new.page =
     omega (arith, c.take_bit.ensures.len, c.deref_mut.ensures.len) in
     takes_in c.args.store.now.geometry
-    c.geometry-geometry.result c.args.region c.args.bits c.min-below.result c.requires.geometry
-    c.geometry-geometry.ensures c.requires.bits c.min-below.ensures
+    c.taking_limit.result c.args.region c.args.bits c.min-below.result c.requires.geometry
+    (c.taking_limit.ensures ∙ ap taking_limit c.geometry-geometry.ensures) c.requires.bits c.min-below.ensures
     (viewed c.args.store.now image c.args.batch.now) (viewed c.args.store.now image c.put.new.self)
     c.in_ok-page.page.items c.deref_mut.result.now c.take_bit.new.page c.deref.result.now
     c.in-Some.bit c.deref_mut.ensures.value

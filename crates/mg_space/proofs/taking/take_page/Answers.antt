@@ -3,7 +3,7 @@ use Rattle.mg_base.specs.declared.numbers.PageNo.{PageNo}
 use Rattle.mg_base.specs.declared.geometry.Geometry.{Geometry}
 use Rattle.mg_image.specs.Inventory.{inventory_page}
 use Rattle.mg_space.specs.HandedLaws.{own_as, told_as}
-use Rattle.mg_space.specs.Taking.{RefusesTake, TakesPage}
+use Rattle.mg_space.specs.Taking.{RefusesTake, TakesPage, taking_limit}
 use Rattle.mg_space.specs.View.{viewed}
 use Rattle.mg_space.specs.ViewLaws.{keeps_itself, keeps_on}
 use Rattle.mg_space.specs.declared.fault.SpaceFault.TheVariants as faults
@@ -14,8 +14,8 @@ use Rattle.mg_space.proofs.taking.take_page.Goals as goal
 pub returns-in_err-page-clause-takes : goal.returns-in_err-page-clause-takes
 returns-in_err-page-clause-takes g c = λ image tells.
     let below : inventory_page c.args.store.now.geometry.size c.loop-region.region
-    < c.args.store.now.geometry.limit = subst (λ (x : Geometry). inventory_page x.size
-    c.loop-region.region < x.limit) c.geometry-geometry.ensures
+    < taking_limit c.args.store.now.geometry = subst (λ (x : Geometry). inventory_page x.size
+    c.loop-region.region < taking_limit x) c.geometry-geometry.ensures
     ((c.regions_below-region-end.ensures c.loop-region.region).0 c.loop-region-test.true) in
     handed_on c.from_residual-in_err-page.result c.in_err-page.field-0.0
     (λ page. TakesPage c.args.store.now.geometry
@@ -144,7 +144,7 @@ returns-clause-takes g c = λ image tells. (
   full c.args.store.now.geometry c.loop-region.region c.regions_below-region-end.result
       (viewed c.args.store.now image c.args.batch.now) c.requires.geometry c.loop-region-test.false
       (subst (λ (x : Geometry). (r : ℕ) → r < c.regions_below-region-end.result
-      ↔ (inventory_page x.size r < x.limit)) c.geometry-geometry.ensures
+      ↔ (inventory_page x.size r < taking_limit x)) c.geometry-geometry.ensures
       c.regions_below-region-end.ensures)
       (c.loop-region.invariant.none image tells),
 )

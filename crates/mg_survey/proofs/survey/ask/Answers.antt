@@ -1,8 +1,8 @@
 use Rattle.std.proofs.Common.{◌∙◌, ap, refl, ℕ}
-use Rattle.std.specs.Prelude.{Err, min}
-use Rattle.mg_base.specs.declared.geometry.TheConstants.{GREATEST_LIMIT}
+use Rattle.std.specs.Prelude.{Err, max}
 use Rattle.mg_space.specs.ViewLaws.{content_on}
 use Rattle.mg_survey.proofs.AskingLemmas.{asks_answered, asks_calm, asks_up, calm_content, calm_same, calm_up, has_pages, head_alone, sized_same, surveyed, twice_same}
+use Rattle.mg_survey.specs.Survey.{new_pages}
 use Rattle.mg_survey.proofs.survey.ask.Goals as goal
 
 pub returns-clause-reads : goal.returns-clause-reads
@@ -80,6 +80,6 @@ pub returns-clause-survey : goal.returns-clause-survey
 returns-clause-survey g c = surveyed g.D.Disk.meaning g.met.D.Disk.counted c.args.disk.now c.pages.new.self
     c.is_unmade.new.disk
     c.args.limit c.in-Ok.size c.in-Ok-pages.pages _ c.is_unmade.ensures.has.sized c.in-Ok.ensures.size.1
-    (c.in-Ok-pages.ensures.calm.held ∙ c.in-Ok.ensures.calm.held) c.in-Ok-pages.ensures.count refl
-    (c.min-limit.ensures ∙ ap (λ (n : ℕ). min n GREATEST_LIMIT) c.max.ensures)
+    (c.in-Ok-pages.ensures.calm.held ∙ c.in-Ok.ensures.calm.held) c.in-Ok-pages.ensures.count c.is_unmade.ensures.has.count refl
+    (c.max-limit.ensures ∙ ap (λ (n : ℕ). max n new_pages) c.max.ensures)
     c.in-Ok-is_unmade.ensures.unmade

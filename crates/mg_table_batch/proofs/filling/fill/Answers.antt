@@ -5,6 +5,10 @@ use Rattle.mg_space.specs.declared.fault.SpaceFault.TheVariants as faults
 use Rattle.mg_table_batch.specs.Refusals.{RefusesTable, table_memory, table_page}
 use Rattle.mg_table_batch.proofs.FillLemmas.{filled_by}
 use Rattle.mg_table_batch.proofs.SeenLemmas.{handed_on}
+use Rattle.mg_base.specs.declared.geometry.Geometry.{Geometry}
+use Rattle.mg_space.specs.View.{AreWhole}
+use Rattle.std.specs.Prelude.{OnOk}
+use Rattle.std.proofs.Common.{subst}
 use Rattle.mg_table_batch.proofs.filling.fill.Goals as goal
 
 pub returns-in_err-page-clause-fills : goal.returns-in_err-page-clause-fills
@@ -31,3 +35,7 @@ returns-clause-fills g c = λ image tells. filled_by g.D.Disk.meaning c.args.sto
     c.in_ok-rows.ensures (c.in_ok-page.ensures.takes image tells) c.in_ok-page.ensures.keeps
     (c.put_table.ensures.puts image (tells_on g.D.Disk.meaning c.args.store.now c.take_first.new.store image
     c.in_ok-page.ensures.keeps tells))
+
+pub returns-clause-whole : goal.returns-clause-whole
+returns-clause-whole g c = subst (λ (x : Geometry). OnOk c.put_table.result (AreWhole x c.put_table.new.batch.pages))
+    c.in_ok-page.ensures.keeps.geometry c.put_table.ensures.whole

@@ -43,7 +43,7 @@ returns-clause-keeps g c = keeps_on g.D.Disk.meaning g.met.D.Disk.counts_now c.a
     c.newest_link.new.store c.in_ok-at.ensures.keeps c.in_ok-link.ensures.keeps
 
 pub returns-clause-whole : goal.returns-clause-whole
-returns-clause-whole g c = whole_same c.args.store.now.geometry.size c.put_row.new.batch c.order_to.new.batch
+returns-clause-whole g c = whole_same c.args.store.now.geometry c.put_row.new.batch c.order_to.new.batch
     c.in_ok-at.ensures.whole c.in_ok-order_to.ensures.pages
 
 pub returns-clause-puts : goal.returns-clause-puts

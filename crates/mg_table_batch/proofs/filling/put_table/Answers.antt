@@ -2,6 +2,10 @@ use Rattle.mg_space.specs.ViewLaws.{keeps_on, tells_on}
 use Rattle.mg_table_batch.specs.Refusals.{RefusesRowsOf}
 use Rattle.mg_table_batch.proofs.FillLemmas.{own_refused, rows_then}
 use Rattle.mg_table_batch.proofs.SeenLemmas.{handed_on}
+use Rattle.std.proofs.Common.{subst}
+use Rattle.std.specs.Prelude.{OnOk}
+use Rattle.mg_base.specs.declared.geometry.Geometry.{Geometry}
+use Rattle.mg_space.specs.View.{AreWhole}
 use Rattle.mg_table_batch.proofs.filling.put_table.Goals as goal
 
 pub returns-in_err-put_naming-clause-puts : goal.returns-in_err-put_naming-clause-puts
@@ -23,3 +27,7 @@ returns-clause-puts g c = λ image tells. rows_then g.D.Disk.meaning c.args.stor
     (c.in_ok-put_naming.ensures.puts image tells) c.in_ok-put_naming.ensures.keeps
     (c.put_rows.ensures.puts image (tells_on g.D.Disk.meaning c.args.store.now c.put_naming.new.store image
     c.in_ok-put_naming.ensures.keeps tells))
+
+pub returns-clause-whole : goal.returns-clause-whole
+returns-clause-whole g c = subst (λ (x : Geometry). OnOk c.put_rows.result (AreWhole x c.put_rows.new.batch.pages))
+    c.in_ok-put_naming.ensures.keeps.geometry c.put_rows.ensures.whole

@@ -5,6 +5,7 @@ use Rattle.mg_pointer.specs.PointerPage.{new_pointer_page}
 use Rattle.mg_pointer.specs.PointerPageLaws.{length-new_pointer_page}
 use Rattle.mg_pool.specs.Batch.{PutsPage}
 use Rattle.mg_pool.specs.declared.fault.PoolFault.TheVariants as pool_faults
+use Rattle.mg_space.specs.BelowLaws.{taken_below}
 use Rattle.mg_space.specs.Taking.{RefusesTake}
 use Rattle.mg_space.specs.View.{viewed}
 use Rattle.mg_space.specs.ViewLaws.{whole_on}
@@ -24,15 +25,16 @@ returns-in_err-make_first_page-clause-takes g c = λ image tells.
     c.from_residual-in_err-make_first_page.ensures.0 c.from_residual-in_err-make_first_page.ensures.1 tt
 
 pub returns-clause-below : goal.returns-clause-below
-returns-clause-below g c = omega (arith, c.in_ok-page.ensures.puts.below, c.requires.geometry.limit)
+returns-clause-below g c = omega (arith, c.in_ok-page.ensures.puts.below)
 
 pub returns-clause-whole : goal.returns-clause-whole
-returns-clause-whole g c = whole_on c.args.store.now.geometry.size c.take_page.new.batch c.make_first_page.new.batch
+returns-clause-whole g c = whole_on c.args.store.now.geometry c.take_page.new.batch c.make_first_page.new.batch
     c.in_ok-page.page.0
     (new_pointer_page c.args.store.now.geometry.size c.in_ok-page.page.0 c.in_ok-page.page.0 0)
     (whole_taken c.args.store.now.geometry c.args.batch.now c.take_page.new.batch c.in_ok-page.page.0
     c.requires.whole c.in_ok-page.ensures.puts)
     (length-new_pointer_page c.args.store.now.geometry.size c.in_ok-page.page.0 c.in_ok-page.page.0 0)
+    (taken_below c.args.store.now.geometry c.in_ok-page.page.0 c.in_ok-page.ensures.puts.below)
     (subst (λ (g : Geometry). PutsPage c.take_page.new.batch c.make_first_page.new.batch c.in_ok-page.page.0
     (new_pointer_page g.size c.in_ok-page.page.0 c.in_ok-page.page.0 0)) c.in_ok-page.ensures.keeps.geometry
     c.in_ok-make_first_page.ensures.made)

@@ -7,6 +7,7 @@ use Rattle.mg_pool.specs.Batch.{Changed}
 use Rattle.mg_row_writes.specs.Changing.{nothing_yet}
 use Rattle.mg_space.specs.declared.fault.SpaceFault.{SpaceFault}
 use Rattle.mg_table_batch.proofs.MakeLemmas.{own_batch}
+use Rattle.mg_space.specs.BelowLaws.{below_kept}
 use Rattle.mg_table_batch.proofs.growing.grow.Goals as goal
 
 pub returns-clause-grows : goal.returns-clause-grows
@@ -24,3 +25,7 @@ returns-clause-grows g c = own_batch g.D.Disk.meaning c.args.store.now c.page_wi
     ))
     c.in_ok-page_with_room.ensures.keeps c.in_ok-page_with_room.ensures.fault c.in_ok-page_with_room.ensures.gives
     c.change_batch.ensures.changes
+
+pub change_batch-requires-clause-below : goal.change_batch-requires-clause-below
+change_batch-requires-clause-below g c = below_kept c.args.store.now.geometry c.page_with_room.new.store.geometry
+    c.page_with_room.new.batch.pages c.page_with_room.ensures.keeps.geometry c.page_with_room.ensures.whole

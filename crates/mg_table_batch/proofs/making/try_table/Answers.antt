@@ -9,6 +9,7 @@ use Rattle.mg_table_batch.specs.Making.{FailsTry, no_page, not_at_once}
 use Rattle.mg_table_batch.specs.Refusals.{RefusesTable}
 use Rattle.mg_table_batch.proofs.MakeLemmas.{made_at_once, not_changed_once, not_filled_by, page_wanted}
 use Rattle.mg_table_batch.proofs.SeenLemmas.{handed_on}
+use Rattle.mg_space.specs.BelowLaws.{below_kept}
 use Rattle.mg_table_batch.proofs.making.try_table.Goals as goal
 
 pub returns-in_err-fill-clause-tries : goal.returns-in_err-fill-clause-tries
@@ -60,3 +61,7 @@ returns-clause-tries g c = record {
       c.if-is_lawful.false c.is_lawful.ensures.1;
   grows = c.in_ok-grow.ensures.grows;
 }
+
+pub change_lawful-requires-clause-below : goal.change_lawful-requires-clause-below
+change_lawful-requires-clause-below g c = below_kept c.args.store.now.geometry c.fill.new.store.geometry
+    c.fill.new.batch.pages c.in_ok-fill.ensures.keeps.geometry c.in_ok-fill.ensures.whole

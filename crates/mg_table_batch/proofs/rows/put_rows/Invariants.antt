@@ -14,7 +14,7 @@ abbrev pub invariant-loop-row : goal.invariant-loop-row
 invariant-loop-row g l = record {
   keeps : KeepsStore g.D.Disk.meaning l.initial.store l.store;
   faults : MeetsNoFault g.D.Disk.meaning l.initial.store l.store;
-  whole : AreWhole l.initial.store.geometry.size l.batch.pages;
+  whole : AreWhole l.initial.store.geometry l.batch.pages;
   puts : (image : Image) → Tells g.D.Disk.meaning l.initial.store.disk image → (new : Changed)
       → PutsRows l.initial.store image l.catalog l.t.0 l.rest l.batch new
       → PutsRows l.initial.store image l.catalog l.t.0 l.rows l.initial.batch new;

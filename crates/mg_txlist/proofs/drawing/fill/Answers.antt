@@ -1,14 +1,15 @@
 use Rattle.std.proofs.Common.{◌<◌, ◌∙◌, ◌%◌, ap, subst, sym, ℕ}
 use Rattle.mg_base.specs.declared.geometry.Geometry.{Geometry}
 use Rattle.mg_header.specs.declared.header.TheConstants.{GREATEST_NEXT}
-use Rattle.mg_pool.specs.Batch.{IsLawful}
+use Rattle.mg_pool.specs.Batch.{AreBelow, IsLawful}
+use Rattle.mg_space.specs.BelowLaws.{all_below, taken_below}
 use Rattle.mg_space.specs.HandedLaws.{no_answer, own_as, told_as}
 use Rattle.mg_space.specs.View.{AreWhole}
 use Rattle.mg_space.specs.ViewLaws.{keeps_on}
 use Rattle.mg_tip.specs.TipPage.{places}
 use Rattle.mg_txlist.specs.Drawing.{PutsHead}
 use Rattle.mg_txlist.proofs.AddLemmas.{same_number}
-use Rattle.mg_txlist.proofs.DrawLemmas.{draws_last, draws_new, lawful_last, lawful_new, tip_len, tip_whole}
+use Rattle.mg_txlist.proofs.DrawLemmas.{draws_last, draws_new, lawful_last, lawful_new, tip_len, tip_whole, whole_last, whole_new}
 use Rattle.mg_pool.specs.Pool.{shown}
 use Rattle.mg_txlist.specs.Refusals.{RefusesDraw}
 use Rattle.std.specs.Prelude.{Ok}
@@ -23,8 +24,8 @@ pub returns-then-t-places_of-ne0-clause-lawful : goal.returns-then-t-places_of-n
 returns-then-t-places_of-ne0-clause-lawful g c =
     subst (λ (x : Geometry). IsLawful x.size c.put_head.new.batch.pages c.put_head.new.batch.orders)
     c.read_head.ensures.keeps.geometry
-    (lawful_last c.read_head.new.store.geometry.size c.args.batch.now c.put_head.new.batch
-    c.requires.empty c.requires.unordered c.in_ok-put_head.ensures.puts)
+    (lawful_last c.read_head.new.store.geometry c.args.batch.now c.put_head.new.batch
+    c.requires.empty c.in_ok-put_head.ensures.below c.in_ok-put_head.ensures.puts c.requires.unordered)
 
 pub returns-then-t-places_of-ne0-clause-draws : goal.returns-then-t-places_of-ne0-clause-draws
 returns-then-t-places_of-ne0-clause-draws g c = λ image tells.
@@ -38,7 +39,7 @@ returns-then-t-places_of-ne0-clause-draws g c = λ image tells.
 
 pub put_head-requires-2-clause-whole : goal.put_head-requires-2-clause-whole
 put_head-requires-2-clause-whole g c =
-    subst (λ (x : Geometry). AreWhole x.size c.put_tip.new.batch.pages)
+    subst (λ (x : Geometry). AreWhole x c.put_tip.new.batch.pages)
     (sym c.put_tip.ensures.keeps.geometry)
     (tip_whole g.D.Disk.meaning c.read_head.new.store c.args.batch.now c.put_tip.new.batch c.args.t.0
     c.in_ok-header.header.last_tip.0 c.in_ok-page.page c.in_ok-page.ensures.puts c.requires.empty)
@@ -65,6 +66,7 @@ returns-clause-lawful g c =
     (lawful_new g.D.Disk.meaning c.read_head.new.store c.args.batch.now c.put_tip.new.batch c.args.t.0
     c.in_ok-header.header.last_tip.0 c.in_ok-page.page c.in_ok-page.ensures.puts
     c.put_head-2.new.batch c.requires.empty c.requires.unordered
+    (subst (λ (x : Geometry). 0 < x.limit) same c.in_ok-put_head-2.ensures.below)
     (subst (λ (x : Geometry). PutsHead x.size c.put_tip.new.batch c.put_head-2.new.batch) same
     c.in_ok-put_head-2.ensures.puts))
 
@@ -238,3 +240,61 @@ returns-then-t-places_of-ne0-clause-page g c =
     ∙ ap (λ (x : Geometry). x.size) c.read_head.ensures.keeps.geometry in
     let same = ap (λ (k : ℕ). c.args.t.0 % k) (c.places_of.ensures ∙ ap places size) in
     λ zero. c.if-t-places_of-ne0.true (same ∙ zero)
+
+pub returns-in_err-header-clause-below : goal.returns-in_err-header-clause-below
+returns-in_err-header-clause-below g c = no_answer _ c.from_residual.result c.from_residual.ensures.0
+
+pub returns-in_err-header-clause-page_below : goal.returns-in_err-header-clause-page_below
+returns-in_err-header-clause-page_below g c = no_answer _ c.from_residual.result c.from_residual.ensures.0
+
+pub returns-in_err-put_head-clause-below : goal.returns-in_err-put_head-clause-below
+returns-in_err-put_head-clause-below g c = no_answer _ c.from_residual-in_err-put_head.result c.from_residual-in_err-put_head.ensures.0
+
+pub returns-in_err-put_head-clause-page_below : goal.returns-in_err-put_head-clause-page_below
+returns-in_err-put_head-clause-page_below g c = no_answer _ c.from_residual-in_err-put_head.result c.from_residual-in_err-put_head.ensures.0
+
+pub returns-in_err-page-clause-below : goal.returns-in_err-page-clause-below
+returns-in_err-page-clause-below g c = no_answer _ c.from_residual-in_err-page.result c.from_residual-in_err-page.ensures.0
+
+pub returns-in_err-page-clause-page_below : goal.returns-in_err-page-clause-page_below
+returns-in_err-page-clause-page_below g c = no_answer _ c.from_residual-in_err-page.result c.from_residual-in_err-page.ensures.0
+
+pub returns-in_err-put_head-2-clause-below : goal.returns-in_err-put_head-2-clause-below
+returns-in_err-put_head-2-clause-below g c = no_answer _ c.from_residual-in_err-put_head-2.result c.from_residual-in_err-put_head-2.ensures.0
+
+pub returns-in_err-put_head-2-clause-page_below : goal.returns-in_err-put_head-2-clause-page_below
+returns-in_err-put_head-2-clause-page_below g c = no_answer _ c.from_residual-in_err-put_head-2.result c.from_residual-in_err-put_head-2.ensures.0
+
+pub returns-then-header-t-clause-below : goal.returns-then-header-t-clause-below
+returns-then-header-t-clause-below g c = tt
+
+pub returns-then-header-t-clause-page_below : goal.returns-then-header-t-clause-page_below
+returns-then-header-t-clause-page_below g c = tt
+
+pub returns-then-t-places_of-ne0-clause-page_below : goal.returns-then-t-places_of-ne0-clause-page_below
+returns-then-t-places_of-ne0-clause-page_below g c = tt
+
+pub returns-then-t-places_of-ne0-clause-below : goal.returns-then-t-places_of-ne0-clause-below
+returns-then-t-places_of-ne0-clause-below g c =
+    subst (λ (x : Geometry). AreBelow x.limit c.put_head.new.batch.pages) c.read_head.ensures.keeps.geometry
+    (all_below c.read_head.new.store.geometry c.put_head.new.batch.pages
+    (whole_last c.read_head.new.store.geometry c.args.batch.now c.put_head.new.batch c.requires.empty
+    c.in_ok-put_head.ensures.below c.in_ok-put_head.ensures.puts))
+
+pub returns-clause-page_below : goal.returns-clause-page_below
+returns-clause-page_below g c = subst (λ (x : Geometry). c.in_ok-page.page.page < x.limit)
+    c.read_head.ensures.keeps.geometry
+    (taken_below c.read_head.new.store.geometry c.in_ok-page.page.page c.in_ok-page.ensures.puts.inventory.below)
+
+pub returns-clause-below : goal.returns-clause-below
+returns-clause-below g c =
+    let same = c.put_tip.ensures.keeps.geometry in
+    subst (λ (x : Geometry). AreBelow x.limit c.put_head-2.new.batch.pages)
+    c.read_head.ensures.keeps.geometry
+    (all_below c.read_head.new.store.geometry c.put_head-2.new.batch.pages
+    (whole_new g.D.Disk.meaning c.read_head.new.store c.args.batch.now c.put_tip.new.batch c.args.t.0
+    c.in_ok-header.header.last_tip.0 c.in_ok-page.page c.in_ok-page.ensures.puts
+    c.put_head-2.new.batch c.requires.empty
+    (subst (λ (x : Geometry). 0 < x.limit) same c.in_ok-put_head-2.ensures.below)
+    (subst (λ (x : Geometry). PutsHead x.size c.put_tip.new.batch c.put_head-2.new.batch) same
+    c.in_ok-put_head-2.ensures.puts)))

@@ -80,3 +80,12 @@ returns-clause-own g c = tt
 
 pub returns-clause-lacks : goal.returns-clause-lacks
 returns-clause-lacks g c = tt
+
+pub returns-in_err-page-clause-below : goal.returns-in_err-page-clause-below
+returns-in_err-page-clause-below g c = no_answer _ c.from_residual.result c.from_residual.ensures.0
+
+pub returns-in_err-put-clause-below : goal.returns-in_err-put-clause-below
+returns-in_err-put-clause-below g c = no_answer _ c.from_residual-in_err-put.result c.from_residual-in_err-put.ensures.0
+
+pub returns-clause-below : goal.returns-clause-below
+returns-clause-below g c = c.in_ok-page.ensures.below

@@ -184,8 +184,24 @@ pub page_of-requires-clause-pool : goal.page_of-requires-clause-pool
 page_of-requires-clause-pool g c = c.requires.pool
 
 pub page_of-requires-clause-whole : goal.page_of-requires-clause-whole
-page_of-requires-clause-whole g c = empty_whole c.args.store.now.geometry.size c.args.batch.now.pages c.requires.empty
+page_of-requires-clause-whole g c = empty_whole c.args.store.now.geometry c.args.batch.now.pages c.requires.empty
 
 pub check_tip-requires : goal.check_tip-requires
 check_tip-requires g c = has_states c.args.store.now.geometry c.args.store.now.geometry c.in_ok-bytes.bytes
     c.as_slice.result.now c.requires.geometry refl c.in_ok-bytes.ensures.len c.as_slice.ensures
+
+pub returns-in_err-bytes-clause-below : goal.returns-in_err-bytes-clause-below
+returns-in_err-bytes-clause-below g c = no_answer _ c.from_residual-in_err-bytes.result c.from_residual-in_err-bytes.ensures.0
+
+pub returns-in_err-check_tip-clause-below : goal.returns-in_err-check_tip-clause-below
+returns-in_err-check_tip-clause-below g c = no_answer _ c.from_residual-in_err-check_tip.result
+    c.from_residual-in_err-check_tip.ensures.0
+
+pub returns-clause-below : goal.returns-clause-below
+returns-clause-below g c = c.in_ok-bytes.ensures.below
+
+pub returns-in_err-online-clause-below : goal.returns-in_err-online-clause-below
+returns-in_err-online-clause-below g c = no_answer _ c.from_residual.result c.from_residual.ensures.0
+
+pub returns-then-at-eq0-clause-below : goal.returns-then-at-eq0-clause-below
+returns-then-at-eq0-clause-below g c = tt

@@ -22,8 +22,9 @@ loop-k-preserved g c = record {
   read = ap (λ xs. length xs) c.in_ok-insert.ensures.items
       ∙ omega (arith, c.loop-k.invariant.read);
   whole = read_whole c.loop-k.store.geometry c.args.store.now.geometry c.in_ok-page.page
-      c.loop-k.pages.items c.insert.new.self.items c.loop-k.invariant.keeps.geometry
-      c.in_ok-page.ensures.whole c.loop-k.invariant.whole c.in_ok-insert.ensures.items;
+      c.loop-k.pages.items c.insert.new.self.items c.loop-k.at.0 c.loop-k.invariant.keeps.geometry
+      c.in_ok-page.ensures.whole c.in_ok-page.ensures.page c.in_ok-page.ensures.below
+      c.loop-k.invariant.whole c.in_ok-insert.ensures.items;
   tested = read_tested c.args.count c.loop-k.k c.in_ok-page.page c.loop-k.pages.items
       c.insert.new.self.items c.loop-k-test.true c.in_ok-page.ensures.tested
       c.loop-k.invariant.tested c.in_ok-insert.ensures.items;

@@ -15,7 +15,7 @@ invariant-loop-k g l = record {
   keeps : KeepsStore g.D.Disk.meaning l.initial.store l.store;
   faults : MeetsNoFault g.D.Disk.meaning l.initial.store l.store;
   read : length l.pages.items ≡ l.k;
-  whole : AreWholePages l.initial.store.geometry.size l.pages.items;
+  whole : AreWholePages l.initial.store.geometry l.pages.items;
   tested : AreTested (l.count - l.k) l.pages.items;
   says : (image : Image) → Tells g.D.Disk.meaning l.initial.store.disk image
       → tips_below (shown l.initial.store.dirty image) l.initial.at.0 l.count

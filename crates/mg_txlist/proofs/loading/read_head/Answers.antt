@@ -89,4 +89,4 @@ pub page_of-requires-clause-pool : goal.page_of-requires-clause-pool
 page_of-requires-clause-pool g c = c.requires.pool
 
 pub page_of-requires-clause-whole : goal.page_of-requires-clause-whole
-page_of-requires-clause-whole g c = empty_whole c.args.store.now.geometry.size c.args.batch.now.pages c.requires.empty
+page_of-requires-clause-whole g c = empty_whole c.args.store.now.geometry c.args.batch.now.pages c.requires.empty

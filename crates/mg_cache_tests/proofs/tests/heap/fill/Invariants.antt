@@ -7,4 +7,4 @@ use Rattle.mg_cache_tests.proofs.tests.heap.fill.Given as goal
 
 abbrev pub invariant-loop-page : goal.invariant-loop-page
 invariant-loop-page l = IsPool mem_meaning l.store × (l.store.geometry ≡ l.fn.store.geometry)
-    × AreWhole 1024 l.batch.pages
+    × AreWhole l.store.geometry l.batch.pages

@@ -12,7 +12,7 @@ pub returns-in-Ok-draw-clause-core : goal.returns-in-Ok-draw-clause-core
 returns-in-Ok-draw-clause-core g c = begun_core g.D.Disk.meaning c.args.self.now c.enter.new.self c.next-t.result.0
     c.args.session c.args.mode c.draw.new.store c.draw.new.self c.requires.core c.next-t.ensures
     c.in-Ok-enter.ensures.ok c.in-Ok-draw.ensures.pool c.in-Ok-draw.ensures.geometry c.in-Ok-draw.ensures.list
-    c.in-Ok-draw.ensures.adds
+    c.draw.ensures.tips c.in-Ok-draw.ensures.adds
 
 pub returns-in-Err-draw-clause-core : goal.returns-in-Err-draw-clause-core
 returns-in-Err-draw-clause-core g c = failed_core g.D.Disk.meaning c.args.self.now c.enter.new.self

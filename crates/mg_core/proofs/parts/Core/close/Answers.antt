@@ -1,4 +1,5 @@
 use Rattle.std.proofs.Common.{subst, sym}
+use Rattle.mg_pool.specs.Pool.{HasAtMost}
 use Rattle.mg_survey.specs.Survey.{IsSameDisk}
 use Rattle.mg_core.proofs.OpeningLemmas.{finish_writes}
 use Rattle.mg_core.proofs.parts.Core.close.Goals as goal
@@ -16,4 +17,6 @@ returns g c = record {
   finishes = c.finish-ended.ensures.ends;
   same = subst (λ (d : g.row.D.Denot). IsSameDisk g.D.Disk.meaning c.args.self.store.disk d)
       (sym c.into_disk.ensures) c.finish-ended.ensures.same;
+  within = subst (λ (d : g.row.D.Denot). HasAtMost g.D.Disk.meaning d c.args.self.store.geometry.limit)
+      (sym c.into_disk.ensures) c.finish-ended.ensures.within;
 }

@@ -19,7 +19,7 @@ pub returns-clause-core : goal.returns-clause-core
 returns-clause-core g c = core_ended g.D.Disk.meaning c.begin_event.new.self c.args.t.0 Committed
     c.mark_committed.new.store c.mark_committed.new.self c.end.new.self c.leave.new.self
     c.in-Ok.ensures.core committed_ended c.mark_committed.ensures.pool c.mark_committed.ensures.geometry
-    c.mark_committed.ensures.list c.in-Ok-mark_committed.ensures.ends c.end.ensures c.leave.ensures
+    c.mark_committed.ensures.list c.mark_committed.ensures.tips c.in-Ok-mark_committed.ensures.ends c.end.ensures c.leave.ensures
 
 pub returns-in-Err-mark_committed-clause-commits : goal.returns-in-Err-mark_committed-clause-commits
 returns-in-Err-mark_committed-clause-commits g c = commit_fails g.D.Disk.meaning c.args.self.now
@@ -28,3 +28,6 @@ returns-in-Err-mark_committed-clause-commits g c = commit_fails g.D.Disk.meaning
     c.in-Err-mark_committed.fault c.in-Err-mark_committed.ensures.own c.in-Err-mark_committed.ensures.fault
     (λ f is. c.mark_committed.ensures.fails f (c.in-Err-mark_committed.is ∙ ap (λ (e : SpaceFault). Err e) is))
     c.bits_refusal.ensures
+
+pub mark_committed-requires-clause-tips : goal.mark_committed-requires-clause-tips
+mark_committed-requires-clause-tips g c = c.in-Ok.ensures.core.tips

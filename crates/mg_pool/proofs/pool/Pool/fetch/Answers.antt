@@ -1,10 +1,10 @@
-use Rattle.std.proofs.Common.{◌≡◌, ◌≢◌, ◌≤◌, ◌∙◌, sym, ap, length, Some, ℕ, true, false, refl, subst, inr, is_some, rules}
+use Rattle.std.proofs.Common.{◌≡◌, ◌≢◌, ◌<◌, ◌≤◌, ◌∙◌, sym, ap, length, Some, ℕ, true, false, refl, subst, inr, is_some, rules}
 use Rattle.std.proofs.lemmas.Bool.{both_ways}
 use Rattle.mg_pool.specs.Clean.{kept_in}
 use Rattle.mg_base.specs.Image.{page_at}
 use Rattle.mg_pool.specs.Dirty.{is_dirty}
 use Rattle.mg_pool.specs.Pool.{IsOnDisk}
-use Rattle.mg_pool.proofs.PoolLemmas.{size_stays, absent_is_clean, put_clean, put_none, on_disk_calm}
+use Rattle.mg_pool.proofs.PoolLemmas.{below_within, size_stays, absent_is_clean, put_clean, put_none, on_disk_calm, within_calm}
 use Rattle.mg_pool.proofs.FetchLemmas.{quiet_call, quiet_then, reads_at_most, reads_then, leaves_pages, leaves_all, shown_so, present, rose_now, rose_then, tells_read, stays_online, refused, no_ok, ok_no_err, offline_no_absent, offline_no_write, read_no_offline, read_no_absent, read_no_write, absent_no_offline, absent_same, absent_no_write, memory_no_offline, memory_no_absent, memory_no_write, leaves_cleaned, keeps_same, put_stays}
 use Rattle.mg_pool.proofs.RunLemmas.{on_err}
 use Rattle.mg_pool.proofs.pool.Pool.fetch.Goals as goal
@@ -171,6 +171,8 @@ returns-in-Ok-put-clause-pool g c =
     let asked_calm = c.in-Ok.ensures.calm in
     let read_calm = c.in-Ok-read_into.ensures.calm in
     let on_it = on_disk_calm g.D.Disk.meaning c.pages.new.self c.read_into.new.disk _ read_calm c.args.page.0 (c.in-Ok.pages, c.in-Ok.ensures.count, c.if-page-pages.false) in
+    let counted_within = within_calm g.D.Disk.meaning c.args.self.now.disk c.pages.new.self _ asked_calm c.args.self.now.geometry.limit pool.within in
+    let page_below = below_within g.D.Disk.meaning c.pages.new.self c.in-Ok.pages c.args.page.0 c.args.self.now.geometry.limit c.in-Ok.ensures.count c.if-page-pages.false counted_within in
     record {
       size = size_stays g.D.Disk.meaning c.pages.new.self c.read_into.new.disk _ _ asked read_calm.keeps;
       page_size = pool.page_size;
@@ -188,6 +190,9 @@ returns-in-Ok-put-clause-pool g c =
           let told_asked = sym read_calm.keeps.tells ∙ told in
           let fresh : c.new-2.result ≡ page_at c.args.self.now.geometry.size image c.args.page.0 = (c.new-2.ensures ∙ c.new.ensures) ∙ (c.in-Ok-read_into.ensures.page image held_asked ∙ ap (λ (n : ℕ). page_at n image c.args.page.0) long) in
           put_clean (kept_in c.args.self.now.clean) (kept_in c.put.new.self) c.args.page.0 c.new-2.result here others (λ p bytes. bytes ≡ page_at c.args.self.now.geometry.size image p) fresh (pool.clean (sym asked_calm.keeps.tells ∙ told_asked) image (sym asked_calm.held ∙ held_asked));
+      below = pool.below;
+      kept_below = put_clean (kept_in c.args.self.now.clean) (kept_in c.put.new.self) c.args.page.0 c.new-2.result here others (λ q b. q < c.args.self.now.geometry.limit) page_below pool.kept_below;
+      within = within_calm g.D.Disk.meaning c.pages.new.self c.read_into.new.disk _ read_calm c.args.self.now.geometry.limit counted_within;
     }
 
 pub returns-in-Ok-put-clause-geometry : goal.returns-in-Ok-put-clause-geometry

@@ -1,6 +1,6 @@
 use Rattle.std.proofs.Common.{◌∙◌}
 use Rattle.mg_pool.specs.Clean.{kept_in}
-use Rattle.mg_pool.proofs.PutLemmas.{tied_put, few_put, apart_put, without_get}
+use Rattle.mg_pool.proofs.PutLemmas.{tied_put, few_put, apart_put, below_put, without_get}
 use Rattle.mg_pool.proofs.pool.Pool.put_page.Goals as goal
 
 pub returns-clause-pool : goal.returns-clause-pool
@@ -21,4 +21,7 @@ returns-clause-pool g c =
       on_disk = λ online p bytes there. pool.on_disk online p bytes (was p bytes there).1;
       counted = pool.counted;
       clean = λ told image held p bytes there. pool.clean told image held p bytes (was p bytes there).1;
+      below = below_put c.args.self.now.dirty c.put.new.self c.args.page c.args.bytes.now c.put.ensures c.args.self.now.geometry.limit c.requires.below pool.below;
+      kept_below = λ p bytes there. pool.kept_below p bytes (was p bytes there).1;
+      within = pool.within;
     }

@@ -15,6 +15,14 @@ put_page-requires-clause-whole g c =
     let whole = c.requires.whole (get_or c.args.pages.now.items c.loop-place.place no_page).page (get_or c.args.pages.now.items c.loop-place.place no_page).bytes (content_at c.args.pages.now.items c.loop-place.place no_page c.requires.once inside) in
     ap length c.as_slice.ensures ∙ (ap (λ (x : BatchPage). length x.bytes) read ∙ (whole ∙ sym (ap (λ (x : Geometry). x.size) c.loop-place.invariant.puts.geometry)))
 
+pub put_page-requires-clause-below : goal.put_page-requires-clause-below
+put_page-requires-clause-below g c =
+    let inside : c.loop-place.place < length c.args.pages.now.items = omega arith in
+    let read : c.index.result.now ≡ get_or c.args.pages.now.items c.loop-place.place no_page = get_or_read c.args.pages.now.items c.loop-place.place c.index.result.now inside c.index.ensures no_page in
+    let below = c.requires.below (get_or c.args.pages.now.items c.loop-place.place no_page).page (get_or c.args.pages.now.items c.loop-place.place no_page).bytes (content_at c.args.pages.now.items c.loop-place.place no_page c.requires.once inside) in
+    subst (λ (x : Geometry). c.index.result.now.page < x.limit) (sym c.loop-place.invariant.puts.geometry)
+    (subst (λ (x : BatchPage). x.page < c.args.self.now.geometry.limit) (sym read) below)
+
 pub loop-place-preserved : goal.loop-place-preserved
 loop-place-preserved g c =
     let inside : c.loop-place.place < length c.args.pages.now.items = omega arith in

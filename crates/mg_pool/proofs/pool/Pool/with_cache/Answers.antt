@@ -25,4 +25,7 @@ returns-clause-pool g c =
       apart = λ p dirty. absurd (both_ways _ (no_dirty p) dirty);
       whole = λ p bytes there. let e : None ≡ Some bytes = sym (no_clean p) ∙ there in cc;
       clean = λ told image held p bytes there. let e : None ≡ Some bytes = sym (no_clean p) ∙ there in cc;
+      below = λ p dirty. absurd (both_ways _ (no_dirty p) dirty);
+      kept_below = λ p bytes there. let e : None ≡ Some bytes = sym (no_clean p) ∙ there in absurd cc;
+      within = c.requires.within;
     }

@@ -1,9 +1,9 @@
-use Rattle.std.proofs.Common.{◌≡◌, ◌≢◌, ◌∙◌, arith, sym, ap, inl, inr, Some, None, Option, List, length, ℕ, true, [], refl}
+use Rattle.std.proofs.Common.{◌≡◌, ◌≢◌, ◌<◌, ◌∙◌, arith, sym, ap, inl, inr, Some, None, Option, List, length, ℕ, true, [], refl}
 use Rattle.mg_pool.specs.Clean.{kept_in}
 use Rattle.mg_base.specs.Image.{page_at}
 use Rattle.mg_pool.specs.Pool.{IsOnDisk}
 use Rattle.mg_pool.specs.Dirty.{content_of, is_dirty}
-use Rattle.mg_pool.proofs.PoolLemmas.{counted_after, kept_none, kept_then, on_disk_written, stored_now, tied_after, writes_out, overlay_of_page, leaves_after, size_stays, held_after, still_dirty, clean_written, clean_failed, failed_leaves, on_disk_after, shown_failed}
+use Rattle.mg_pool.proofs.PoolLemmas.{counted_after, kept_none, kept_then, on_disk_written, stored_now, tied_after, writes_out, overlay_of_page, leaves_after, size_stays, held_after, still_dirty, clean_written, clean_failed, failed_leaves, on_disk_after, shown_failed, within_after, within_failed}
 use Rattle.mg_pool.proofs.RunLemmas.{time_of_call}
 use Rattle.mg_pool.proofs.pool.Pool.write_out.Goals as goal
 
@@ -34,6 +34,9 @@ returns-in-Err g c =
         clean = λ told image held page bytes there.
             let apart : page ≢ c.args.page = λ e. let gone = pool.apart page (ap (is_dirty c.args.self.now.dirty) e ∙ c.requires.dirty) in let f : Some bytes ≡ None = sym there ∙ gone in cc in
             clean_failed m g.met.D.Disk.holds c.args.self.now.disk c.write.new.self c.args.page c.args.self.now.geometry.size c.in-Some.bytes.now (c.in-Some.ensures.whole ∙ pool.page_size) page apart bytes (λ t i h. pool.clean t i h page bytes there) _ writes told image held;
+        below = pool.below;
+        kept_below = pool.kept_below;
+        within = within_failed m c.args.self.now.disk c.write.new.self c.args.page c.in-Some.bytes.now _ writes c.args.self.now.geometry.limit (pool.below c.args.page c.requires.dirty) pool.within;
       };
       kept = record {
         geometry = refl;
@@ -90,6 +93,9 @@ returns-in-Ok g c =
         clean = λ told image held. kept (λ p b. b ≡ page_at c.args.self.now.geometry.size image p)
             (λ counted. stored_now m g.met.D.Disk.holds c.args.self.now.disk c.write.new.self c.args.page c.args.self.now.geometry.size c.in-Some.bytes.now _ whole writes told image held)
             (λ p b there. clean_written m g.met.D.Disk.holds c.args.self.now.disk c.write.new.self c.args.page c.args.self.now.geometry.size c.in-Some.bytes.now whole p (not_this p b there) b (λ t i h. pool.clean t i h p b there) _ writes told image held);
+        below = λ page dirty. pool.below page (still_dirty c.args.self.now.dirty c.take_out.new.self c.args.self.now.graph c.clear.new.self [] c.args.page c.in-Some.bytes.now content c.in-Some.ensures.whole c.take_out.ensures.taken c.clear.ensures c.requires.ready page dirty).1;
+        kept_below = kept (λ p b. p < c.args.self.now.geometry.limit) (λ told. pool.below c.args.page c.requires.dirty) pool.kept_below;
+        within = within_after m c.args.self.now.disk c.write.new.self c.args.page c.in-Some.bytes.now _ writes c.args.self.now.geometry.limit (pool.below c.args.page c.requires.dirty) pool.within;
       };
       time = time_of_call m c.args.self.now.disk c.write.new.self _ writes.keeps;
       crash = λ told image held.

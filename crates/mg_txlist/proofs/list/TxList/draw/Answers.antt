@@ -1,14 +1,15 @@
 use Rattle.std.proofs.Common.{◌∙◌, refl, subst, sym, ℕ, Option}
 use Rattle.mg_base.specs.declared.geometry.Geometry.{Geometry}
-use Rattle.mg_pool.specs.Batch.{IsLawful}
+use Rattle.mg_pool.specs.Batch.{AreBelow, IsLawful}
 use Rattle.std.specs.Prelude.{Ok, Err}
 use Rattle.mg_pool.specs.Pool.{shown}
 use Rattle.mg_space.specs.HandedLaws.{no_answer, out_of_memory, own_as, told_as}
 use Rattle.mg_space.specs.View.{viewed}
 use Rattle.mg_txlist.specs.Drawing.{DrawsOn, IsTipFor, not_changed}
-use Rattle.mg_txlist.proofs.AddLemmas.{adds_list, adds_number, own_back, pages_back, same_list}
+use Rattle.mg_txlist.proofs.AddLemmas.{adds_below, adds_list, adds_number, own_back, pages_back, same_list}
 use Rattle.mg_space.specs.ViewLaws.{fault_on}
 use Rattle.mg_txlist.specs.Refusals.{RefusesDraw}
+use Rattle.mg_txlist.specs.TipLaws.{items_same}
 use Rattle.mg_txlist.specs.TxList.{next_said}
 use Rattle.mg_txlist.specs.declared.list.TipPage.{TipPage}
 use Rattle.mg_txlist.proofs.HandedLemmas.{is_also, on_err, own_memory, told_memory}
@@ -208,3 +209,24 @@ change-requires-clause-pool g c = c.in_ok-page.ensures.keeps.pool
 pub change-requires-clause-lawful : goal.change-requires-clause-lawful
 change-requires-clause-lawful g c = subst (λ (x : Geometry). IsLawful x.size c.fill.new.batch.pages c.fill.new.batch.orders)
     (sym c.fill.ensures.keeps.geometry) c.in_ok-page.ensures.lawful
+
+pub change-requires-clause-below : goal.change-requires-clause-below
+change-requires-clause-below g c = subst (λ (x : Geometry). AreBelow x.limit c.fill.new.batch.pages)
+    (sym c.fill.ensures.keeps.geometry) c.in_ok-page.ensures.below
+
+pub returns-in_err-page-clause-tips : goal.returns-in_err-page-clause-tips
+returns-in_err-page-clause-tips g c = λ each. each
+
+pub returns-in_err-add-clause-tips : goal.returns-in_err-add-clause-tips
+returns-in_err-add-clause-tips g c = λ each. items_same c.args.store.now.geometry.limit
+    c.args.self.now.pages.items _ c.in_err-add.ensures.same_pages each
+
+pub returns-in-Ok-clause-tips : goal.returns-in-Ok-clause-tips
+returns-in-Ok-clause-tips g c = λ each. adds_below c.args.self.now c.add.new.self c.in_ok-page.page
+    c.args.store.now.geometry.limit c.in_ok-add.ensures.pages c.in_ok-page.ensures.page_below each
+
+pub returns-in-Err-clause-tips : goal.returns-in-Err-clause-tips
+returns-in-Err-clause-tips g c = λ each. items_same c.args.store.now.geometry.limit
+    c.args.self.now.pages.items _ (pages_back c.args.self.now c.add.new.self c.in_ok-page.page c.len-pages.result
+    c.truncate.new.self.items c.in_ok-add.ensures.pages (c.len-pages.ensures ∙ c.args.self.now.pages.ok.0)
+    c.truncate.ensures.items) each

@@ -8,7 +8,7 @@ use Rattle.mg_space.specs.HandedLaws.{no_answer, own_as, told_as}
 use Rattle.mg_space.specs.ViewLaws.{fault_on, keeps_on}
 use Rattle.mg_txlist.specs.declared.list.TipPage.{TipPage}
 use Rattle.mg_txlist.proofs.HandedLemmas.{geometry_on, told_then}
-use Rattle.mg_txlist.proofs.LoadLemmas.{head_read, list_made}
+use Rattle.mg_txlist.proofs.LoadLemmas.{head_read, list_below, list_made}
 use Rattle.mg_pool.specs.Pool.{shown}
 use Rattle.mg_txlist.specs.Refusals.{RefusesLoad}
 use Rattle.mg_txlist.proofs.ReadingLemmas.{read_list}
@@ -146,3 +146,14 @@ read_head-requires-clause-pool g c = c.requires.pool
 
 pub read_head-requires-clause-geometry : goal.read_head-requires-clause-geometry
 read_head-requires-clause-geometry g c = c.requires.geometry
+
+pub returns-in_err-header-clause-tips : goal.returns-in_err-header-clause-tips
+returns-in_err-header-clause-tips g c = no_answer _ c.from_residual.result c.from_residual.ensures.0
+
+pub returns-in_err-pages-clause-tips : goal.returns-in_err-pages-clause-tips
+returns-in_err-pages-clause-tips g c = no_answer _ c.from_residual-in_err-pages.result
+    c.from_residual-in_err-pages.ensures.0
+
+pub returns-clause-tips : goal.returns-clause-tips
+returns-clause-tips g c = list_below _ c.args.store.now.geometry c.read_head.new.store.geometry
+    c.in_ok-header.ensures.keeps.geometry c.in_ok-pages.ensures.whole

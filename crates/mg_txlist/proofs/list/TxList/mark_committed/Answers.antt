@@ -1,7 +1,8 @@
-use Rattle.std.proofs.Common.{◌∙◌, refl}
+use Rattle.std.proofs.Common.{◌∙◌, ◌/◌, refl}
 use Rattle.mg_tip.specs.TipPage.{places}
 use Rattle.mg_space.specs.declared.fault.SpaceFault.TheVariants as faults
-use Rattle.mg_txlist.proofs.TipLemmas.{made_long}
+use Rattle.mg_txlist.proofs.EndLemmas.{kept_below}
+use Rattle.mg_txlist.proofs.TipLemmas.{made_long, tip_below}
 use Rattle.mg_txlist.proofs.WritingLemmas.{commits_bits, fails_commit, no_fault}
 use Rattle.mg_txlist.proofs.list.TxList.mark_committed.Goals as goal
 
@@ -98,3 +99,16 @@ keep_committed-requires-clause-sets g c = c.put_bits.ensures
 pub settle_page-requires-clause-whole : goal.settle_page-requires-clause-whole
 settle_page-requires-clause-whole g c = made_long c.args.self.now c.args.t.0 (places c.args.self.now.size)
     c.requires.list c.requires.drawn refl c.put_bits.new.bytes c.put_bits.ensures ∙ c.requires.size
+
+pub settle_page-requires-clause-below : goal.settle_page-requires-clause-below
+settle_page-requires-clause-below g c = tip_below c.args.self.now c.args.t.0 (places c.args.self.now.size)
+    c.requires.list c.requires.drawn refl c.args.store.now.geometry.limit c.page_of_bits-page.result.0
+    c.requires.tips c.page_of_bits-page.ensures.page
+
+pub returns-in-Err-clause-tips : goal.returns-in-Err-clause-tips
+returns-in-Err-clause-tips g c = c.requires.tips
+
+pub returns-clause-tips : goal.returns-clause-tips
+returns-clause-tips g c = kept_below c.args.self.now c.keep_committed.new.self
+    (c.args.t.0 / places c.args.self.now.size) c.put_bits.new.bytes c.args.store.now.geometry.limit
+    c.keep_committed.ensures.keeps c.requires.tips
