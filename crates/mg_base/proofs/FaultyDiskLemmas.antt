@@ -1,7 +1,7 @@
 -- A disk whose calls may fail keeps what the disk in it keeps.
 use Rattle.std.proofs.Common.{◌≡◌, ◌≤◌, ◌+◌, ℕ, List, false, inl, inr, get_or, ap, refl, subst, sym, arith}
 use Rattle.std.specs.Prelude.{Result, Ok, Err, IsErrAnd, OnErr, OnOk}
-use Rattle.mg_base.specs.Disk.{Calm, Keeps, KeepsReads, Rose, Writes}
+use Rattle.mg_base.specs.Disk.{Calm, CountsFailedWrite, Keeps, KeepsReads, Rose, Writes}
 use Rattle.mg_base.specs.MemDisk.{mem_meaning}
 use Rattle.mg_base.specs.FaultyDisk.{faulty_meaning}
 use Rattle.mg_base.specs.declared.mem_disk.MemDisk.{MemDisk}
@@ -107,3 +107,23 @@ writes_before old new page bytes r Q same asked reads le rose is =
       unread = record { reads = reads; was_read = λ n. refl };
       keeps = kept;
     }) keeps
+
+-- what counts as a failed page write
+
+pub failed_write_inside : {T E : Type 0} (old new : FaultyDisk) (middle : MemDisk) (r : Result T E) → middle ≡ old.inner → new.failed_writes ≡ old.failed_writes
+    → CountsFailedWrite mem_meaning middle new.inner r → CountsFailedWrite faulty_meaning old new r
+failed_write_inside old new middle r is same middle_counts =
+    let counts = subst (λ (d : MemDisk). CountsFailedWrite mem_meaning d new.inner r) is middle_counts in
+    record {
+      never_falls = falls_beside old.inner.faults new.inner.faults old.failed_writes new.failed_writes (omega arith) counts.never_falls;
+      cause = λ failed. rose_beside old.inner.faults new.inner.faults old.failed_writes new.failed_writes same (counts.cause failed);
+      steady = steady_beside r old.inner.faults new.inner.faults old.failed_writes new.failed_writes same counts.steady;
+    }
+
+pub failed_write_before : {T E : Type 0} (old new : FaultyDisk) (r : Result T E) (Q : E → Type 0) → new.inner ≡ old.inner → old.failed_writes ≤ new.failed_writes → Rose old.failed_writes new.failed_writes → IsErrAnd r Q
+    → CountsFailedWrite faulty_meaning old new r
+failed_write_before old new r Q same le rose is = subst (λ (d : MemDisk). CountsFailedWrite faulty_meaning old (record new { inner = d }) r) (sym same) (record {
+  never_falls = falls_beside old.inner.faults old.inner.faults old.failed_writes new.failed_writes le (omega arith);
+  cause = λ failed. rose_else old.inner.faults old.failed_writes new.failed_writes rose;
+  steady = no_ok r Q (old.inner.faults + new.failed_writes ≡ old.inner.faults + old.failed_writes) is;
+})

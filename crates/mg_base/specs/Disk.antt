@@ -18,6 +18,8 @@ pub record Meaning (D : Type 0) : Type 1 where
   pub left : D → ℕ → Image → Type 0
   -- how often it failed
   pub faults : D → ℕ
+  -- how many of its faults were of page writes, or of settling
+  pub failed_writes : D → ℕ
   -- how many page writes it was asked for, and how many page reads, where it counts them
   pub asked : D → ℕ
   pub reads : D → ℕ
@@ -54,6 +56,16 @@ pub record Keeps {D T E : Type 0} (m : Meaning D) (old new : D) (result : Result
   pub never_falls : m.faults old ≤ m.faults new
   pub cause : IsErr result → Rose (m.faults old) (m.faults new)
   pub steady : OnOk result (m.faults new ≡ m.faults old)
+
+-- no page write failed, and no settling
+abbrev pub FailsNoWrite : {D : Type 0} → Meaning D → D → D → Type 0
+FailsNoWrite m old new = m.failed_writes new ≡ m.failed_writes old
+
+-- a page write or a settling: it counts as a failed one exactly where it fails
+pub record CountsFailedWrite {D T E : Type 0} (m : Meaning D) (old new : D) (result : Result T E) : Type 0 where
+  pub never_falls : m.failed_writes old ≤ m.failed_writes new
+  pub cause : IsErr result → Rose (m.failed_writes old) (m.failed_writes new)
+  pub steady : OnOk result (FailsNoWrite m old new)
 
 -- a call that changes nothing of the content, and asks for no page write
 pub record Calm {D T E : Type 0} (m : Meaning D) (old new : D) (result : Result T E) : Type 0 where

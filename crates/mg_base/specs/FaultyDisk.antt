@@ -21,7 +21,7 @@ calls_of d = d.calls
 abbrev pub FailsNext : FaultyDisk → Type 0
 FailsNext d = IsListed (bad_of d) (calls_of d)
 
--- It tells what the disk in memory tells; its faults are those of both. It counts the calls that fail too.
+-- It tells what the disk in memory tells; its faults are those of both, and so its failed page writes. It counts the calls that fail too.
 abbrev pub faulty_meaning : Meaning FaultyDisk
 faulty_meaning = record {
   size = λ d. mem_meaning.size d.inner;
@@ -31,6 +31,7 @@ faulty_meaning = record {
   moment = λ d. mem_meaning.moment d.inner;
   left = λ d t c. mem_meaning.left d.inner t c;
   faults = λ d. mem_meaning.faults d.inner + d.failed;
+  failed_writes = λ d. mem_meaning.failed_writes d.inner + d.failed_writes;
   asked = λ d. d.asked;
   reads = λ d. d.reads;
   was_read = λ d n. mem_meaning.was_read d.inner n;

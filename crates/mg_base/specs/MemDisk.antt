@@ -27,7 +27,7 @@ record_of d = length d.obeyed.items
 abbrev pub IsOut : MemDisk → ℕ → Type 0
 IsOut d page = (room_of d ≤ page) ⊎ (record_of d ≤ length (writes_of d))
 
--- It tells all: what it holds, exactly what a crash may leave, and exactly what it was asked for.
+-- It tells all: what it holds, exactly what a crash may leave, and exactly what it was asked for. Only page writes fail.
 abbrev pub mem_meaning : Meaning MemDisk
 mem_meaning = record {
   size = λ d. Some d.size;
@@ -37,6 +37,7 @@ mem_meaning = record {
   moment = λ d. length (acts_in d);
   left = λ d t c. Left d.size (acts_in d) t c;
   faults = λ d. d.faults;
+  failed_writes = λ d. d.faults;
   asked = λ d. d.asked;
   reads = λ d. d.reads;
   was_read = λ d n. get_or d.were_read.items n false;

@@ -1,7 +1,7 @@
 //! The disk: pages of one size, which a crash may cut short between two page writes.
 
 ghost use Rattle.std.specs.Prelude.{◌≡◌, ◌<◌, ◌≤◌, ℕ, length, true, Some, IfOk, OnOk, unwrap_or};
-ghost use Rattle.mg_base.specs.Disk.{Meaning, MayLeave, Calm, KeepsReads, ReadsPage, Writes};
+ghost use Rattle.mg_base.specs.Disk.{Meaning, MayLeave, Calm, KeepsReads, ReadsPage, Writes, FailsNoWrite, CountsFailedWrite};
 ghost use Rattle.mg_base.specs.Image.{Image, page_at};
 ghost use Rattle.mg_base.specs.Geometry.{is_page_size};
 
@@ -24,7 +24,8 @@ pub enum DiskFault {
 ///
 /// # Errors
 ///
-/// Each call answers `Failed` only where the disk's count of faults rose in it.
+/// Each call answers `Failed` only where the disk's count of faults rose in it. Its count of failed page
+/// writes, which counts settling too, rises where `write` or `settle` failed, and in no other call.
 pub trait Disk {
     ghost meaning: { Meaning Self };
 
@@ -32,13 +33,15 @@ pub trait Disk {
     fn page_size(&mut self) -> Result<u32, DiskFault>
         ensures size { IfOk result (λ n. (meaning.size self.new ≡ Some n) × (is_page_size n ≡ true)) }
         ensures calm { Calm meaning self.old self.new result }
-        ensures unread { KeepsReads meaning self.old self.new };
+        ensures unread { KeepsReads meaning self.old self.new }
+        ensures no_failed_write { FailsNoWrite meaning self.old self.new };
 
     /// The number of pages.
     fn pages(&mut self) -> Result<u32, DiskFault>
         ensures count { IfOk result (λ n. meaning.count self.new ≡ Some n) }
         ensures calm { Calm meaning self.old self.new result }
-        ensures unread { KeepsReads meaning self.old self.new };
+        ensures unread { KeepsReads meaning self.old self.new }
+        ensures no_failed_write { FailsNoWrite meaning self.old self.new };
 
     /// Reads a page. `into` is one page long, and the page is below the number of pages, which the
     /// caller has asked for.
@@ -48,20 +51,23 @@ pub trait Disk {
         ensures page { OnOk result ((image : Image) → meaning.held self.old ≡ Some image
             → into.new ≡ page_at (length into.old) image page.0) }
         ensures calm { Calm meaning self.old self.new result }
-        ensures reads { ReadsPage meaning self.old self.new page.0 };
+        ensures reads { ReadsPage meaning self.old self.new page.0 }
+        ensures no_failed_write { FailsNoWrite meaning self.old self.new };
 
     /// Writes a page. `bytes` is one page long. A page past the end lengthens the disk up to that
     /// page, with pages of zeros between.
     fn write(&mut self, page: PageNo, bytes: &[u8]) -> Result<(), DiskFault>
         requires whole { meaning.size self.old ≡ Some (length bytes.now) }
-        ensures writes { Writes meaning self.old self.new page.0 bytes.now result };
+        ensures writes { Writes meaning self.old self.new page.0 bytes.now result }
+        ensures failed_writes { CountsFailedWrite meaning self.old self.new result };
 
     /// Makes what was written stay: after it a crash leaves what the disk holds, and nothing else.
     fn settle(&mut self) -> Result<(), DiskFault>
         ensures durable { OnOk result (meaning.tells self.old ≡ true → (c : Image)
             → MayLeave meaning self.new c → meaning.held self.new ≡ Some c) }
         ensures calm { Calm meaning self.old self.new result }
-        ensures unread { KeepsReads meaning self.old self.new };
+        ensures unread { KeepsReads meaning self.old self.new }
+        ensures failed_writes { CountsFailedWrite meaning self.old self.new result };
 
     /// A disk that tells what a crash may leave tells what it holds, and a crash may leave that.
     ghost holds: { (disk : Self) → meaning.tells disk ≡ true

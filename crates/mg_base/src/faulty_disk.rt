@@ -10,6 +10,8 @@ pub struct FaultyDisk {
     bad: Vec<u32>,
     calls: u32,
     failed: u64,
+    // How many of the calls that failed were page writes, or settled the disk.
+    failed_writes: u64,
     // How many page writes and page reads it was asked for.
     asked: u64,
     reads: u64,
@@ -34,6 +36,7 @@ impl FaultyDisk {
             bad,
             calls: 0,
             failed: 0,
+            failed_writes: 0,
             asked: 0,
             reads: 0,
         }
@@ -60,6 +63,7 @@ impl FaultyDisk {
         ensures bad { self.new.bad ≡ self.old.bad }
         ensures asked { self.new.asked ≡ self.old.asked }
         ensures reads { self.new.reads ≡ self.old.reads }
+        ensures failed_writes { self.new.failed_writes ≡ self.old.failed_writes }
         ensures calls { self.new.calls ≡ next_call self.old.calls }
         ensures listed { IsErr result ↔ FailsNext self.old }
         ensures never_falls { self.old.failed ≤ self.new.failed }
@@ -73,11 +77,33 @@ impl FaultyDisk {
         }
         Ok(())
     }
+
+    // Counts a page write or a settling, and tells whether it goes on.
+    fn admit_write(&mut self) -> Result<(), DiskFault>
+        ensures inner { self.new.inner ≡ self.old.inner }
+        ensures bad { self.new.bad ≡ self.old.bad }
+        ensures asked { self.new.asked ≡ self.old.asked }
+        ensures reads { self.new.reads ≡ self.old.reads }
+        ensures calls { self.new.calls ≡ next_call self.old.calls }
+        ensures listed { IsErr result ↔ FailsNext self.old }
+        ensures never_falls { self.old.failed ≤ self.new.failed }
+        ensures rose { OnErr result (Rose self.old.failed self.new.failed) }
+        ensures steady { OnOk result (self.new.failed ≡ self.old.failed) }
+        ensures writes_never_fall { self.old.failed_writes ≤ self.new.failed_writes }
+        ensures writes_rose { OnErr result (Rose self.old.failed_writes self.new.failed_writes) }
+        ensures writes_steady { OnOk result (self.new.failed_writes ≡ self.old.failed_writes) }
+    {
+        let admitted = self.admit();
+        if admitted.is_err() {
+            self.failed_writes = self.failed_writes.saturating_add(1);
+        }
+        admitted
+    }
 }
 
 impl Disk for FaultyDisk {
     ghost use Rattle.std.specs.Prelude.{◌≡◌, ◌↔◌, ◌⊎◌, ◌<◌, ℕ, true, Some, IsErr, IfOk, OnOk, length, unwrap_or};
-    ghost use Rattle.mg_base.specs.Disk.{Calm, Counts, CountsRead, KeepsReads, ReadsPage, Writes, MayLeave};
+    ghost use Rattle.mg_base.specs.Disk.{Calm, Counts, CountsRead, KeepsReads, ReadsPage, Writes, MayLeave, FailsNoWrite, CountsFailedWrite};
     ghost use Rattle.mg_base.specs.Geometry.{is_page_size};
     ghost use Rattle.mg_base.specs.Image.{Image, page_at};
     ghost use Rattle.mg_base.specs.MemDisk.{IsOut};
@@ -96,6 +122,7 @@ impl Disk for FaultyDisk {
         ensures size { IfOk result (λ n. (faulty_meaning.size self.new ≡ Some n) × (is_page_size n ≡ true)) }
         ensures calm { Calm faulty_meaning self.old self.new result }
         ensures unread { KeepsReads faulty_meaning self.old self.new }
+        ensures no_failed_write { FailsNoWrite faulty_meaning self.old self.new }
         ensures fails { IsErr result ↔ FailsNext self.old }
     {
         self.admit()?;
@@ -106,6 +133,7 @@ impl Disk for FaultyDisk {
         ensures count { IfOk result (λ n. faulty_meaning.count self.new ≡ Some n) }
         ensures calm { Calm faulty_meaning self.old self.new result }
         ensures unread { KeepsReads faulty_meaning self.old self.new }
+        ensures no_failed_write { FailsNoWrite faulty_meaning self.old self.new }
         ensures fails { IsErr result ↔ FailsNext self.old }
     {
         self.admit()?;
@@ -119,6 +147,7 @@ impl Disk for FaultyDisk {
             → into.new ≡ page_at (length into.old) image page.0) }
         ensures calm { Calm faulty_meaning self.old self.new result }
         ensures reads { ReadsPage faulty_meaning self.old self.new page.0 }
+        ensures no_failed_write { FailsNoWrite faulty_meaning self.old self.new }
         ensures counts { CountsRead faulty_meaning self.old self.new page.0 result }
         ensures fails { IsErr result ↔ FailsNext self.old }
     {
@@ -130,11 +159,12 @@ impl Disk for FaultyDisk {
     fn write(&mut self, page: PageNo, bytes: &[u8]) -> Result<(), DiskFault>
         requires whole { faulty_meaning.size self.old ≡ Some (length bytes.now) }
         ensures writes { Writes faulty_meaning self.old self.new page.0 bytes.now result }
+        ensures failed_writes { CountsFailedWrite faulty_meaning self.old self.new result }
         ensures fails { IsErr result ↔ (FailsNext self.old ⊎ IsOut (disk_of self.old) page.0) }
         ensures counts { Counts self.old.asked self.new.asked }
     {
         self.asked = self.asked.saturating_add(1);
-        self.admit()?;
+        self.admit_write()?;
         self.inner.write(page, bytes)
     }
 
@@ -143,9 +173,10 @@ impl Disk for FaultyDisk {
             → MayLeave faulty_meaning self.new c → faulty_meaning.held self.new ≡ Some c) }
         ensures calm { Calm faulty_meaning self.old self.new result }
         ensures unread { KeepsReads faulty_meaning self.old self.new }
+        ensures failed_writes { CountsFailedWrite faulty_meaning self.old self.new result }
         ensures fails { IsErr result ↔ FailsNext self.old }
     {
-        self.admit()?;
+        self.admit_write()?;
         self.inner.settle()
     }
 }

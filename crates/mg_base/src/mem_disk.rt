@@ -119,7 +119,7 @@ impl MemDisk {
 impl Disk for MemDisk {
     ghost use Rattle.std.specs.Prelude.{◌↔◌, ◌<◌, ℕ, true, Some, ◌∷◌, IsErr, IsOk, IfOk, OnErr, OnOk, unwrap_or};
     ghost use Rattle.mg_base.specs.Acts.{Write, acts_of};
-    ghost use Rattle.mg_base.specs.Disk.{Calm, Counts, CountsRead, KeepsReads, ReadsPage, Writes, MayLeave};
+    ghost use Rattle.mg_base.specs.Disk.{Calm, Counts, CountsRead, KeepsReads, ReadsPage, Writes, MayLeave, FailsNoWrite, CountsFailedWrite};
     ghost use Rattle.mg_base.specs.Geometry.{is_page_size};
     ghost use Rattle.mg_base.specs.Image.{Image, page_at};
     ghost use Rattle.mg_base.specs.MemDisk.{acts_in, writes_of, mem_meaning, mem_holds, mem_counts_now, mem_counted, IsOut};
@@ -136,6 +136,7 @@ impl Disk for MemDisk {
         ensures size { IfOk result (λ n. (mem_meaning.size self.new ≡ Some n) × (is_page_size n ≡ true)) }
         ensures calm { Calm mem_meaning self.old self.new result }
         ensures unread { KeepsReads mem_meaning self.old self.new }
+        ensures no_failed_write { FailsNoWrite mem_meaning self.old self.new }
         ensures ok { IsOk result }
         ensures same { self.new ≡ self.old }
     {
@@ -146,6 +147,7 @@ impl Disk for MemDisk {
         ensures count { IfOk result (λ n. mem_meaning.count self.new ≡ Some n) }
         ensures calm { Calm mem_meaning self.old self.new result }
         ensures unread { KeepsReads mem_meaning self.old self.new }
+        ensures no_failed_write { FailsNoWrite mem_meaning self.old self.new }
         ensures ok { IsOk result }
         ensures same { self.new ≡ self.old }
     {
@@ -159,6 +161,7 @@ impl Disk for MemDisk {
             → into.new ≡ page_at (length into.old) image page.0) }
         ensures calm { Calm mem_meaning self.old self.new result }
         ensures reads { ReadsPage mem_meaning self.old self.new page.0 }
+        ensures no_failed_write { FailsNoWrite mem_meaning self.old self.new }
         ensures counts { CountsRead mem_meaning self.old self.new page.0 result }
         ensures ok { IsOk result }
         ensures acts { acts_in self.new ≡ acts_in self.old }
@@ -173,6 +176,7 @@ impl Disk for MemDisk {
     fn write(&mut self, page: PageNo, bytes: &[u8]) -> Result<(), DiskFault>
         requires whole { mem_meaning.size self.old ≡ Some (length bytes.now) }
         ensures writes { Writes mem_meaning self.old self.new page.0 bytes.now result }
+        ensures failed_writes { CountsFailedWrite mem_meaning self.old self.new result }
         ensures fails { IsErr result ↔ (IsOut self.old page.0) }
         ensures acts { OnOk result (acts_in self.new ≡ Write page.0 bytes.now ∷ acts_in self.old) }
         ensures absent { OnErr result (acts_in self.new ≡ acts_in self.old) }
@@ -193,6 +197,7 @@ impl Disk for MemDisk {
             → MayLeave mem_meaning self.new c → mem_meaning.held self.new ≡ Some c) }
         ensures calm { Calm mem_meaning self.old self.new result }
         ensures unread { KeepsReads mem_meaning self.old self.new }
+        ensures failed_writes { CountsFailedWrite mem_meaning self.old self.new result }
         ensures ok { IsOk result }
         ensures acts { acts_in self.new ≡ acts_of (writes_of self.old) true }
     {

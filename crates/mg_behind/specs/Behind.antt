@@ -33,6 +33,7 @@ module _ {D R J : Type 0} {d : disk.Ghosts D} {j : started.Ghosts J D} where
     moment = λ b. 0;
     left = λ b t c. Unit {0};
     faults = λ b. b.refused + b.past;
+    failed_writes = λ b. b.refused + b.past;
     asked = λ b. 0;
     reads = λ b. 0;
     was_read = λ b n. false;

@@ -16,7 +16,8 @@ use std::sync::Wait;
 /// A disk over another: it reads from a mirror of all pages, and hands page writes and settles to the
 /// worker. It has room for 16,384 pages. Its calls may wait, and none takes memory.
 ///
-/// It tells its pages, and nothing of crashes. Its faults are the calls that it refused.
+/// It tells its pages, and nothing of crashes. Its faults are the calls that it refused: page writes and
+/// settles, since its reads never fail.
 #[derive(Drop)]
 pub struct Behind<D: Disk, R: Wait, J: Started<D>> {
     pub(crate) rt: R,
@@ -85,7 +86,7 @@ impl<D: Disk, R: Wait, J: Started<D>> Behind<D, R, J> {
 
 impl<D: Disk, R: Wait, J: Started<D>> Disk for Behind<D, R, J> {
     ghost use Rattle.std.specs.Prelude.{◌≡◌, ◌<◌, ◌≤◌, true, Some, length, unwrap_or, IfOk, OnOk, IsErr, IsOk};
-    ghost use Rattle.mg_base.specs.Disk.{Calm, KeepsReads, ReadsPage, Writes, MayLeave};
+    ghost use Rattle.mg_base.specs.Disk.{Calm, KeepsReads, ReadsPage, Writes, MayLeave, FailsNoWrite, CountsFailedWrite};
     ghost use Rattle.mg_base.specs.Geometry.{is_page_size};
     ghost use Rattle.mg_base.specs.Image.{Image, page_at};
     ghost use Rattle.mg_behind.specs.Behind.{behind_meaning, behind_holds, behind_counts_now, behind_counted};
@@ -103,6 +104,7 @@ impl<D: Disk, R: Wait, J: Started<D>> Disk for Behind<D, R, J> {
         ensures size { IfOk result (λ n. (behind_meaning.size self.new ≡ Some n) × (is_page_size n ≡ true)) }
         ensures calm { Calm behind_meaning self.old self.new result }
         ensures unread { KeepsReads behind_meaning self.old self.new }
+        ensures no_failed_write { FailsNoWrite behind_meaning self.old self.new }
         ensures ok { IsOk result }
         ensures same { self.new ≡ self.old }
     {
@@ -113,6 +115,7 @@ impl<D: Disk, R: Wait, J: Started<D>> Disk for Behind<D, R, J> {
         ensures count { IfOk result (λ n. behind_meaning.count self.new ≡ Some n) }
         ensures calm { Calm behind_meaning self.old self.new result }
         ensures unread { KeepsReads behind_meaning self.old self.new }
+        ensures no_failed_write { FailsNoWrite behind_meaning self.old self.new }
         ensures ok { IsOk result }
         ensures same { self.new ≡ self.old }
     {
@@ -126,6 +129,7 @@ impl<D: Disk, R: Wait, J: Started<D>> Disk for Behind<D, R, J> {
             → into.new ≡ page_at (length into.old) image page.0) }
         ensures calm { Calm behind_meaning self.old self.new result }
         ensures reads { ReadsPage behind_meaning self.old self.new page.0 }
+        ensures no_failed_write { FailsNoWrite behind_meaning self.old self.new }
         ensures ok { IsOk result }
         ensures same { self.new ≡ self.old }
     {
@@ -138,6 +142,7 @@ impl<D: Disk, R: Wait, J: Started<D>> Disk for Behind<D, R, J> {
     fn write(&mut self, page: PageNo, bytes: &[u8]) -> Result<(), DiskFault>
         requires whole { behind_meaning.size self.old ≡ Some (length bytes.now) }
         ensures writes { Writes behind_meaning self.old self.new page.0 bytes.now result }
+        ensures failed_writes { CountsFailedWrite behind_meaning self.old self.new result }
         ensures issued { OnOk result (IssuesWrite self.old self.new page.0 bytes.now) }
         ensures refused { page.0 < 16384 → IsErr result → RefusesWrite self.old self.new }
         ensures past { 16384 ≤ page.0 → IsErr result × RefusesPage self.old self.new }
@@ -167,6 +172,7 @@ impl<D: Disk, R: Wait, J: Started<D>> Disk for Behind<D, R, J> {
             → MayLeave behind_meaning self.new c → behind_meaning.held self.new ≡ Some c) }
         ensures calm { Calm behind_meaning self.old self.new result }
         ensures unread { KeepsReads behind_meaning self.old self.new }
+        ensures failed_writes { CountsFailedWrite behind_meaning self.old self.new result }
         ensures settled { OnOk result (Settles self.old self.new) }
         ensures refused { IsErr result → RefusesSettle self.old self.new }
     {

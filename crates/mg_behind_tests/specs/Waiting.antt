@@ -16,6 +16,7 @@ waiting_meaning = record {
   moment = λ d. mem_meaning.moment d.inner;
   left = λ d t c. mem_meaning.left d.inner t c;
   faults = λ d. mem_meaning.faults d.inner;
+  failed_writes = λ d. mem_meaning.failed_writes d.inner;
   asked = λ d. mem_meaning.asked d.inner;
   reads = λ d. mem_meaning.reads d.inner;
   was_read = λ d n. mem_meaning.was_read d.inner n;

@@ -1,11 +1,12 @@
 -- A write that is refused, and what undoes its statement.
 use Rattle.std.proofs.Common.{◌≡◌, ℕ, suc, Bool, true, false, List, ◌∷◌, Option, Some, None, refl, sym, ap, subst, ◌∙◌, arith}
 use Rattle.std.proofs.lemmas.Bool.{false≢true}
-use Rattle.std.specs.Prelude.{◌&&◌, ◌++◌, ◌<◌, ◌+◌, length, All, MatchOption, cond, if◌then◌else◌}
+use Rattle.std.specs.Prelude.{◌&&◌, ◌++◌, ◌<◌, ◌+◌, length, not, All, MatchOption, cond, if◌then◌else◌}
 use Rattle.std.specs.Option.{option_to_list}
 use Rattle.mg_value.specs.declared.shape.Shape.{Shape}
 use Rattle.mg_base.specs.declared.numbers.TxNo.{TxNo}
-use Rattle.mg_faults.specs.Faults.{tells_fault, worse}
+use Rattle.mg_faults.specs.FaultLaws.{worse_tells}
+use Rattle.mg_faults.specs.Faults.{FaultCount, tells_failed_write, tells_fault, tells_rise, worse}
 use Rattle.mg_model.specs.declared.answer.Answer.{Answer}
 use Rattle.mg_model.specs.declared.answer.Answer.TheVariants.{Fine, No}
 use Rattle.mg_model.specs.declared.event.Event.{Event}
@@ -80,16 +81,23 @@ pub not_undone_frames : {R P : Type 0} (m : Means R P) (before old new : R) (t :
     → Frames m before new t (refusal_written (refused_twice refusal later))
 not_undone_frames m before old new t refusal later first second told_on =
     subst (λ (told : Option Refusal). Frames m before new t told) (sym (told_twice refusal later))
-    (by (tells_fault (Some refusal)) refl)
+    (by (tells_fault (Some refusal) && not (tells_failed_write (Some later))) refl)
   where
     undoing : Frames m old new t (Some later)
     undoing = frames_changes m old new t (Some later) second told_on
 
-    by : (b : Bool) → tells_fault (Some refusal) ≡ b
+    untold : (b : Bool) → (tells_fault (Some refusal) && not (tells_failed_write (Some later))) ≡ b → (k : FaultCount)
+        → tells_rise k (Some (if b then refusal else later)) ≡ false
+        → (tells_rise k (Some refusal) ≡ false) × (tells_rise k (Some later) ≡ false)
+    untold b is k quiet = worse_tells k refusal later
+        (subst (λ (c : Bool). tells_rise k (Some (if c then refusal else later)) ≡ false) (sym is) quiet)
+
+    by : (b : Bool) → (tells_fault (Some refusal) && not (tells_failed_write (Some later))) ≡ b
         → Frames m before new t (Some (if b then refusal else later))
-    by true told = frames_first m before old new t (Some refusal) (Some later)
-        (λ not. absurd (false≢true (sym not ∙ told))) first undoing
-    by false quiet = frames_then m before old new t (Some refusal) (Some later) (λ not. quiet) first undoing
+    by true is = frames_first m before old new t (Some refusal) (Some later) (λ k quiet. (untold true is k quiet).1)
+        first undoing
+    by false is = frames_then m before old new t (Some refusal) (Some later) (λ k quiet. (untold false is k quiet).0)
+        first undoing
 
 -- a write was refused, and its statement undone
 pub comes_to_nothing : {R P : Type 0} (m : Means R P) (old mid new : R) (t : TxNo) (event : Event)

@@ -4,10 +4,10 @@ use Rattle.std.specs.Prelude.{◌⊎◌}
 use Rattle.mg_base.specs.Disk.{Rose}
 use Rattle.mg_model.specs.declared.refusal.Refusal.{Refusal}
 use Rattle.mg_model.specs.declared.refusal.Refusal.TheVariants.{DatabaseFull, DiskRead, DiskWrite, Offline, Damaged}
-use Rattle.mg_faults.specs.Faults.{tells_fault}
+use Rattle.mg_faults.specs.Faults.{FaultCount, each_fault, failed_writes, tells_rise}
 use Rattle.mg_records.specs.Meaning.{Means}
-use Rattle.mg_records.specs.Keeping.{Causes, CommitsStay, Elapses, FaultsAreTold, Keeps, Leaves, Reads, TablesStay, WalksStay, down_after}
-use Rattle.mg_calls.specs.Frames.{Blames, Frames}
+use Rattle.mg_records.specs.Keeping.{Causes, CommitsStay, Elapses, FaultsAreTold, FaultsGrow, Keeps, Leaves, Reads, TablesStay, WalksStay, WriteFailed, down_after}
+use Rattle.mg_calls.specs.Frames.{Blames, Frames, fault_count}
 
 -- ---- one call
 
@@ -23,17 +23,22 @@ blamed m old new (Some refusal) cause = tt
 
 fallen : {R P : Type 0} (m : Means R P) (old new : R) (refusal : Option Refusal)
     → Causes m old new refusal → m.down new ≡ down_after (m.down old) refusal
-    → (m.down new ≡ m.down old) ⊎ Rose (m.faults old) (m.faults new)
+    → (m.down new ≡ m.down old) ⊎ WriteFailed m old new
 fallen m old new None cause down = inl down
 fallen m old new (Some (DiskWrite count)) cause down = inr cause
 fallen m old new (Some refusal) cause down = inl down
+
+steady_by : {R P : Type 0} (m : Means R P) (old new : R) (refusal : Option Refusal) → FaultsAreTold m old new refusal
+    → (k : FaultCount) → tells_rise k refusal ≡ false → fault_count m k new ≡ fault_count m k old
+steady_by m old new refusal told each_fault quiet = told.0 quiet
+steady_by m old new refusal told failed_writes quiet = told.1 quiet
 
 framed : {R P : Type 0} (m : Means R P) (old new : R) (t : ℕ) (refusal : Option Refusal)
     → Keeps m old new refusal → FaultsAreTold m old new refusal → TablesStay m old new (Some t)
     → WalksStay m old new (Some t) → CommitsStay m old new (Some t) → Frames m old new t refusal
 framed m old new t refusal keeps told tables walks commits = record {
   faults = keeps.faults;
-  steady = told;
+  steady = steady_by m old new refusal told;
   damage = keeps.damage;
   shortages = keeps.shortages;
   cause = blamed m old new refusal keeps.cause;
@@ -110,49 +115,68 @@ rose_behind : (a b c : ℕ) → a ≤ b → Rose b c → Rose a c
 rose_behind a b c less (inl more) = inl (omega (arith, less, more))
 rose_behind a b c less (inr end) = inr end
 
-goes_down : (down mid new : Option ℕ) (a b c : ℕ) → a ≤ b → b ≤ c
-    → (mid ≡ down) ⊎ Rose a b → (new ≡ mid) ⊎ Rose b c → (new ≡ down) ⊎ Rose a c
-goes_down down mid new a b c less more (inl same) (inl stays) = inl (stays ∙ same)
-goes_down down mid new a b c less more (inl same) (inr rose) = inr (rose_behind a b c less rose)
-goes_down down mid new a b c less more (inr rose) second = inr (rose_before a b c rose more)
+pub grow_then : {R P : Type 0} (m : Means R P) (old mid new : R) → FaultsGrow m old mid → FaultsGrow m mid new → FaultsGrow m old new
+grow_then m old mid new first second = (
+  at_most (m.faults old) (m.faults mid) (m.faults new) first.0 second.0,
+  at_most (m.failed_writes old) (m.failed_writes mid) (m.failed_writes new) first.1 second.1,
+)
+
+pub failed_before : {R P : Type 0} (m : Means R P) (old mid new : R) → WriteFailed m old mid → FaultsGrow m mid new
+    → WriteFailed m old new
+failed_before m old mid new rose more = (
+  rose_before (m.faults old) (m.faults mid) (m.faults new) rose.0 more.0,
+  rose_before (m.failed_writes old) (m.failed_writes mid) (m.failed_writes new) rose.1 more.1,
+)
+
+pub failed_behind : {R P : Type 0} (m : Means R P) (old mid new : R) → FaultsGrow m old mid → WriteFailed m mid new
+    → WriteFailed m old new
+failed_behind m old mid new less rose = (
+  rose_behind (m.faults old) (m.faults mid) (m.faults new) less.0 rose.0,
+  rose_behind (m.failed_writes old) (m.failed_writes mid) (m.failed_writes new) less.1 rose.1,
+)
+
+pub goes_down : {R P : Type 0} (m : Means R P) (old mid new : R) → FaultsGrow m old mid → FaultsGrow m mid new
+    → (m.down mid ≡ m.down old) ⊎ WriteFailed m old mid → (m.down new ≡ m.down mid) ⊎ WriteFailed m mid new
+    → (m.down new ≡ m.down old) ⊎ WriteFailed m old new
+goes_down m old mid new less more (inl same) (inl stays) = inl (stays ∙ same)
+goes_down m old mid new less more (inl same) (inr rose) = inr (failed_behind m old mid new less rose)
+goes_down m old mid new less more (inr rose) second = inr (failed_before m old mid new rose more)
 
 -- the cause of what the first of two calls answered, and of what the second did
 pub blames_first : {R P : Type 0} (m : Means R P) (old mid new : R) (refusal : Option Refusal)
-    → m.faults mid ≤ m.faults new → m.damage mid ≤ m.damage new → m.shortages mid ≤ m.shortages new
+    → FaultsGrow m mid new → m.damage mid ≤ m.damage new → m.shortages mid ≤ m.shortages new
     → Blames m old mid refusal → Blames m old new refusal
 blames_first m old mid new None faults damage shortages cause = tt
 blames_first m old mid new (Some (DiskRead count)) faults damage shortages cause =
-    rose_before (m.faults old) (m.faults mid) (m.faults new) cause faults
+    rose_before (m.faults old) (m.faults mid) (m.faults new) cause faults.0
 blames_first m old mid new (Some (DiskWrite count)) faults damage shortages cause =
-    rose_before (m.faults old) (m.faults mid) (m.faults new) cause faults
+    failed_before m old mid new cause faults
 blames_first m old mid new (Some (Damaged page field found wanted)) faults damage shortages cause =
     rose_before (m.damage old) (m.damage mid) (m.damage new) cause damage
 blames_first m old mid new (Some (DatabaseFull limit)) faults damage shortages cause =
     (rose_before (m.shortages old) (m.shortages mid) (m.shortages new) cause.0 shortages, cause.1)
 blames_first m old mid new (Some (Offline count)) faults damage shortages (inl was) = inl was
 blames_first m old mid new (Some (Offline count)) faults damage shortages (inr rose) =
-    inr (rose_before (m.faults old) (m.faults mid) (m.faults new) rose faults)
+    inr (failed_before m old mid new rose faults)
 blames_first m old mid new (Some refusal) faults damage shortages cause = tt
 
 was_down : {R P : Type 0} (m : Means R P) (old mid new : R) (count : ℕ)
-    → m.faults old ≤ m.faults mid → m.faults mid ≤ m.faults new
-    → (m.down mid ≡ m.down old) ⊎ Rose (m.faults old) (m.faults mid)
-    → (m.down mid ≡ Some count) ⊎ Rose (m.faults mid) (m.faults new)
-    → (m.down old ≡ Some count) ⊎ Rose (m.faults old) (m.faults new)
+    → FaultsGrow m old mid → FaultsGrow m mid new
+    → (m.down mid ≡ m.down old) ⊎ WriteFailed m old mid
+    → (m.down mid ≡ Some count) ⊎ WriteFailed m mid new
+    → (m.down old ≡ Some count) ⊎ WriteFailed m old new
 was_down m old mid new count less more (inl same) (inl was) = inl (sym same ∙ was)
-was_down m old mid new count less more (inr rose) (inl was) =
-    inr (rose_before (m.faults old) (m.faults mid) (m.faults new) rose more)
-was_down m old mid new count less more first (inr rose) =
-    inr (rose_behind (m.faults old) (m.faults mid) (m.faults new) less rose)
+was_down m old mid new count less more (inr rose) (inl was) = inr (failed_before m old mid new rose more)
+was_down m old mid new count less more first (inr rose) = inr (failed_behind m old mid new less rose)
 
 blames_last : {R P : Type 0} (m : Means R P) (old mid new : R) (refusal other : Option Refusal) (t : ℕ)
-    → Frames m old mid t other → m.faults mid ≤ m.faults new
+    → Frames m old mid t other → FaultsGrow m mid new
     → Blames m mid new refusal → Blames m old new refusal
 blames_last m old mid new None other t first faults cause = tt
 blames_last m old mid new (Some (DiskRead count)) other t first faults cause =
-    rose_behind (m.faults old) (m.faults mid) (m.faults new) first.faults cause
+    rose_behind (m.faults old) (m.faults mid) (m.faults new) first.faults.0 cause
 blames_last m old mid new (Some (DiskWrite count)) other t first faults cause =
-    rose_behind (m.faults old) (m.faults mid) (m.faults new) first.faults cause
+    failed_behind m old mid new first.faults cause
 blames_last m old mid new (Some (Damaged page field found wanted)) other t first faults cause =
     rose_behind (m.damage old) (m.damage mid) (m.damage new) first.damage cause
 blames_last m old mid new (Some (DatabaseFull limit)) other t first faults cause = (
@@ -173,18 +197,17 @@ elapses_then m old mid new first second = record {
 
 -- two in a row, where this is the cause of what is answered, and no fault of the two is lost
 joined : {R P : Type 0} (m : Means R P) (old mid new : R) (t : ℕ) (a b refusal : Option Refusal)
-    → (tells_fault refusal ≡ false → tells_fault a ≡ false)
-    → (tells_fault refusal ≡ false → tells_fault b ≡ false)
+    → ((k : FaultCount) → tells_rise k refusal ≡ false → tells_rise k a ≡ false)
+    → ((k : FaultCount) → tells_rise k refusal ≡ false → tells_rise k b ≡ false)
     → Frames m old mid t a → Frames m mid new t b → Blames m old new refusal
     → Frames m old new t refusal
 joined m old mid new t a b refusal not_first not_second first second cause = record {
-  faults = at_most (m.faults old) (m.faults mid) (m.faults new) first.faults second.faults;
-  steady = λ quiet. second.steady (not_second quiet) ∙ first.steady (not_first quiet);
+  faults = grow_then m old mid new first.faults second.faults;
+  steady = λ k quiet. second.steady k (not_second k quiet) ∙ first.steady k (not_first k quiet);
   damage = at_most (m.damage old) (m.damage mid) (m.damage new) first.damage second.damage;
   shortages = at_most (m.shortages old) (m.shortages mid) (m.shortages new) first.shortages second.shortages;
   cause = cause;
-  down = goes_down (m.down old) (m.down mid) (m.down new) (m.faults old) (m.faults mid) (m.faults new)
-      first.faults second.faults first.down second.down;
+  down = goes_down m old mid new first.faults second.faults first.down second.down;
   tells = second.tells ∙ first.tells;
   most_writes = second.most_writes ∙ first.most_writes;
   page_limit = second.page_limit ∙ first.page_limit;
@@ -204,22 +227,22 @@ joined m old mid new t a b refusal not_first not_second first second cause = rec
 
 -- the second of two calls says what is answered, and the first has told no fault that is lost
 pub frames_then : {R P : Type 0} (m : Means R P) (old mid new : R) (t : ℕ) (a refusal : Option Refusal)
-    → (tells_fault refusal ≡ false → tells_fault a ≡ false)
+    → ((k : FaultCount) → tells_rise k refusal ≡ false → tells_rise k a ≡ false)
     → Frames m old mid t a → Frames m mid new t refusal → Frames m old new t refusal
 frames_then m old mid new t a refusal not_first first second =
-    joined m old mid new t a refusal refusal not_first (λ quiet. quiet) first second
+    joined m old mid new t a refusal refusal not_first (λ k quiet. quiet) first second
     (blames_last m old mid new refusal a t first second.faults second.cause)
 
 -- behind a call that was not refused
 pub frames_after : {R P : Type 0} (m : Means R P) (old mid new : R) (t : ℕ) (refusal : Option Refusal)
     → Frames m old mid t None → Frames m mid new t refusal → Frames m old new t refusal
 frames_after m old mid new t refusal first second =
-    frames_then m old mid new t None refusal (λ quiet. refl) first second
+    frames_then m old mid new t None refusal (λ k quiet. refl) first second
 
 -- the first of two calls says what is answered, and the second has told no fault that is lost
 pub frames_first : {R P : Type 0} (m : Means R P) (old mid new : R) (t : ℕ) (refusal b : Option Refusal)
-    → (tells_fault refusal ≡ false → tells_fault b ≡ false)
+    → ((k : FaultCount) → tells_rise k refusal ≡ false → tells_rise k b ≡ false)
     → Frames m old mid t refusal → Frames m mid new t b → Frames m old new t refusal
 frames_first m old mid new t refusal b not_second first second =
-    joined m old mid new t refusal b refusal (λ quiet. quiet) not_second first second
+    joined m old mid new t refusal b refusal (λ k quiet. quiet) not_second first second
     (blames_first m old mid new refusal second.faults second.damage second.shortages first.cause)

@@ -2,7 +2,7 @@
 use Rattle.std.proofs.Common.{◌≡◌, ◌≢◌, ◌+◌, ◌==◌, ℕ, Some, [], false, true, refl, sym, ap, ◌∙◌, subst}
 use Rattle.std.specs.Prelude.{List, Result, Ok, Err, is_some}
 use Rattle.mg_base.specs.Asking.{AsksReads, more_reads}
-use Rattle.mg_base.specs.Disk.{Meaning}
+use Rattle.mg_base.specs.Disk.{FailsNoWrite, Meaning}
 use Rattle.mg_base.specs.Image.{Image, blank, page_at}
 use Rattle.mg_base.specs.declared.geometry.Geometry.{Geometry}
 use Rattle.mg_database.specs.Finishing.{Finishes, offline, unsettled, unwritten}
@@ -47,7 +47,7 @@ module _ {D : Type 0} (m : Meaning D) (disk : D) (limit : ℕ) (before after : P
     (loaded : Loaded) (waits : List (ℕ × ℕ)) (works : List Working) (directories : Kept)
     (prepared : IsPrepared m disk limit before) (keeps : KeepsStore m before after)
     (is : IsLoaded before.geometry loaded)
-    (steady : m.faults after.disk ≡ m.faults before.disk)
+    (steady : m.faults after.disk ≡ m.faults before.disk) (none_failed : FailsNoWrite m before.disk after.disk)
     (loads : ReadsFront m before after loaded.list.pages.items loaded.catalog_pages.pointers.items
     loaded.catalog_pages.data_pages.items) (nobody : waits ≡ []) (none : works ≡ []) (unnoted : directories ≡ record { most = MOST_NOTED; dirs = []; too_large = [] }) where
   abbrev core : Core D
@@ -105,6 +105,7 @@ module _ {D : Type 0} (m : Meaning D) (disk : D) (limit : ℕ) (before after : P
     prepared = prepared;
     keeps = keeps;
     steady = steady;
+    none_failed = none_failed;
     idle = record {
       core_is = idle_core;
       online = keeps.offline ∙ prepared.online;

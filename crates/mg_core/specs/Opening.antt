@@ -1,7 +1,7 @@
 -- The opening of a disk, and the closing of a database.
 use Rattle.std.specs.Prelude.{◌≡◌, ◌≢◌, ◌+◌, ℕ, List, Some, [], None, Result, Ok, Err}
 use Rattle.mg_base.specs.Asking.{AsksReads}
-use Rattle.mg_base.specs.Disk.{Meaning}
+use Rattle.mg_base.specs.Disk.{FailsNoWrite, Meaning}
 use Rattle.mg_base.specs.Image.{Image, blank, page_at}
 use Rattle.mg_database.specs.Finishing.{Finishes}
 use Rattle.mg_database.specs.Loading.{AreUndecided, OpensAlone, RefusesPages, SaysPages, cache_answer, front_length, is_front}
@@ -44,6 +44,7 @@ pub record Opens {D : Type 0} (m : Meaning D) (disk : D) (limit : ℕ) (core : C
   pub keeps : KeepsStore m before core.store
   -- no call of the disk has failed
   pub steady : m.faults core.store.disk ≡ m.faults before.disk
+  pub none_failed : FailsNoWrite m before.disk core.store.disk
   pub idle : IsIdle m core
   -- the pages of the catalog
   pub pointers : List ℕ

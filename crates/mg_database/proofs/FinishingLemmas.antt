@@ -1,7 +1,7 @@
 -- Every page is written, and the disk settled.
 use Rattle.std.proofs.Common.{◌≡◌, ℕ, true, false, List, [], ◌∷◌, Option, None, Some, refl, sym, ap, ◌∙◌, subst}
 use Rattle.std.specs.Prelude.{OnOk, Result, Ok, Err, is_some, unwrap_or}
-use Rattle.mg_base.specs.Disk.{MayLeave, Meaning, Rose}
+use Rattle.mg_base.specs.Disk.{FailsNoWrite, MayLeave, Meaning, Rose}
 use Rattle.mg_base.specs.Image.{Image, page_at}
 use Rattle.mg_format.specs.Format.{IsClean}
 use Rattle.mg_pool.specs.Dirty.{content_of}
@@ -32,13 +32,18 @@ written_more m old mid new so_far online run = record {
   run = (so_far.run, run);
 }
 
--- over the whole run the disk's count of faults has not risen, it tells as before, and lets as many page writes pass
+-- over the whole run the disk's counts of faults have not risen, it tells as before, and lets as many page writes pass
 steady : {D : Type 0} (m : Meaning D) (between : List (Pool D FireLinks)) (old now : Pool D FireLinks)
     → WritesOn m between old now → (m.faults now.disk ≡ m.faults old.disk) × (m.tells now.disk ≡ m.tells old.disk)
-    × (now.dirty.size ≡ old.dirty.size) × (m.most_writes now.disk ≡ m.most_writes old.disk)
-steady m [] old now run = rw run (refl, refl, refl, refl)
-steady m (mid ∷ earlier) old now run = let before = steady m earlier old mid run.0 in
-    (run.1.steady ∙ before.0, run.1.tells ∙ before.1, run.1.size ∙ before.2, run.1.time.most_writes ∙ before.3)
+    × (now.dirty.size ≡ old.dirty.size) × (m.most_writes now.disk ≡ m.most_writes old.disk) × FailsNoWrite m old.disk now.disk
+steady m [] old now run = rw run (refl, refl, refl, refl, refl)
+steady m (mid ∷ earlier) old now run = let before = steady m earlier old mid run.0 in (
+  run.1.steady ∙ before.0,
+  run.1.tells ∙ before.1,
+  run.1.size ∙ before.2,
+  run.1.time.most_writes ∙ before.3,
+  run.1.none_failed ∙ before.4,
+)
 
 -- nor has its page size changed
 same_geometry : {D : Type 0} (m : Meaning D) (between : List (Pool D FireLinks)) (old now : Pool D FireLinks)
@@ -138,6 +143,8 @@ write_fails m old mid new (faults.DiskWrite n) so_far own told left = (
     fails = left;
     rose = subst (λ (count : ℕ). Rose count (m.faults new.disk))
         (steady m so_far.between old mid so_far.run).0 told.2.2;
+    failed_writes = subst (λ (count : ℕ). Rose count (m.failed_writes new.disk))
+        (steady m so_far.between old mid so_far.run).4 told.3;
   },
 )
 write_fails m old mid new (faults.Offline n) so_far own told left =
@@ -166,6 +173,7 @@ module _ {D : Type 0} (m : Meaning D) (holds : Holds m) (old written new : Pool 
     (settles : KeepsContent m written.disk new.disk) where
   parts : (m.faults written.disk ≡ m.faults old.disk) × (m.tells written.disk ≡ m.tells old.disk)
       × (written.dirty.size ≡ old.dirty.size) × (m.most_writes written.disk ≡ m.most_writes old.disk)
+      × FailsNoWrite m old.disk written.disk
   parts = steady m run.between old written run.run
 
   kept : (image now : Image) → Tells m old.disk image → m.held new.disk ≡ Some now
@@ -184,13 +192,16 @@ module _ {D : Type 0} (m : Meaning D) (holds : Holds m) (old written new : Pool 
     run = run;
     clean = clean;
     settles = settles;
-    steady = ap (λ (counts : ℕ × ℕ). counts.1) told.2 ∙ parts.0;
+    steady = ap (λ (counts : ℕ × ℕ × ℕ). counts.1) told.2 ∙ parts.0;
+    none_failed = ap (λ (counts : ℕ × ℕ × ℕ). counts.2) told.2 ∙ parts.4;
     holds = kept;
     durable = λ tells c may. durable (parts.1 ∙ tells) c may;
   }
   settled (Err (faults.DiskRead n)) own told durable = absurd own
-  settled (Err (faults.DiskWrite n)) own told durable = unsettled n written run clean settles
-      (subst (λ (count : ℕ). Rose count (m.faults new.disk)) parts.0 told.2.2)
+  settled (Err (faults.DiskWrite n)) own told durable = unsettled n written run clean settles (
+    subst (λ (count : ℕ). Rose count (m.faults new.disk)) parts.0 told.2.2,
+    subst (λ (count : ℕ). Rose count (m.failed_writes new.disk)) parts.4 told.3,
+  )
   settled (Err (faults.Offline n)) own told durable =
       absurd (let no : None ≡ Some n = sym run.online ∙ told.0 in cc)
   settled (Err (faults.Absent n)) own told durable = absurd own

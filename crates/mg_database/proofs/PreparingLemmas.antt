@@ -2,7 +2,7 @@
 use Rattle.std.proofs.Common.{◌≡◌, inl, inr, ℕ, Bool, true, false, None, Some, length, refl, sym, ap, ◌∙◌, subst}
 use Rattle.std.specs.Prelude.{OnOk, Result, Ok, Err}
 use Rattle.std.proofs.lemmas.Bool.{false≢true}
-use Rattle.mg_base.specs.Disk.{Meaning, Rose}
+use Rattle.mg_base.specs.Disk.{FailsNoWrite, Meaning, Rose}
 use Rattle.mg_base.specs.Image.{Image, blank, page_at}
 use Rattle.mg_base.specs.Moments.{goes_on, joined, leaves_as, started}
 use Rattle.mg_base.specs.declared.geometry.Geometry.{Geometry}
@@ -34,7 +34,8 @@ made_by m old new (Ok x) online pool geometry clean own told says done = record 
   geometry = geometry;
   clean = clean;
   online = told.1;
-  steady = ap (λ (counts : ℕ × ℕ). counts.1) told.2;
+  steady = ap (λ (counts : ℕ × ℕ × ℕ). counts.1) told.2;
+  none_failed = ap (λ (counts : ℕ × ℕ × ℕ). counts.2) told.2;
   says = says;
   done = done;
 }
@@ -47,6 +48,7 @@ made_by m old new (Err (faults.DiskWrite n)) online pool geometry clean own told
   says,
   subst (λ (g : Geometry). HasAtMost m new.disk g.limit) geometry pool.within,
   done,
+  told.3,
 )
 made_by m old new (Err (faults.Offline n)) online pool geometry clean own told says done =
     absurd (let no : None ≡ Some n = sym online ∙ told.0 in cc)
@@ -73,7 +75,7 @@ format_since {D} m disk asked new size result asks told done = record {
 -- A disk was asked, and a cache made over it.
 module _ {D : Type 0} (m : Meaning D) (disk asked : D) (limit : ℕ) (it : Survey)
     (old new : Pool D FireLinks) (asks : KeepsContent m disk asked)
-    (same : IsSameDisk m disk asked) (steady : m.faults asked ≡ m.faults disk)
+    (same : IsSameDisk m disk asked) (steady : m.faults asked ≡ m.faults disk) (none : FailsNoWrite m disk asked)
     (surveyed : IsSurveyed m disk asked limit it) (reads : ReadsHead m disk asked it.geometry.size)
     (pool : IsPool m old) (disk_is : old.disk ≡ asked) (geometry_is : old.geometry ≡ it.geometry)
     (clean : IsClean old) (online : old.offline ≡ None) where
@@ -117,6 +119,9 @@ module _ {D : Type 0} (m : Meaning D) (disk asked : D) (limit : ℕ) (it : Surve
   steady_of_old : m.faults old.disk ≡ m.faults disk
   steady_of_old = ap m.faults disk_is ∙ steady
 
+  none_of_old : FailsNoWrite m disk old.disk
+  none_of_old = ap m.failed_writes disk_is ∙ none
+
   -- the disk then has the page size of the cache
   same_then : (later : D) → m.size later ≡ Some old.geometry.size → SaysAlike m old.disk later
       → IsSameDisk m disk later
@@ -136,6 +141,7 @@ module _ {D : Type 0} (m : Meaning D) (disk asked : D) (limit : ℕ) (it : Surve
     disk_is = there (subst (KeepsContent m disk) (sym disk_is) asks) (told_other is);
     limit_is = limit_of_old;
     steady = steady_of_old;
+    none_failed = none_of_old;
     reads = reads_of_old;
     same = same_then old.disk pool.size (record { tells = refl; most_writes = refl });
   })
@@ -149,6 +155,7 @@ module _ {D : Type 0} (m : Meaning D) (disk asked : D) (limit : ℕ) (it : Surve
         (makes.done image (is_fresh is image tells))));
     limit_is = λ image held. ap (λ (g : Geometry). g.limit) makes.geometry ∙ limit_of_old image held;
     steady = makes.steady ∙ steady_of_old;
+    none_failed = makes.none_failed ∙ none_of_old;
     -- page 0 was zero
     reads = λ image held other. absurd (other (subst (λ (size : ℕ). page_at size image 0 ≡ blank size) same_size
         (told_unmade is image held).header));
@@ -169,6 +176,7 @@ module _ {D : Type 0} (m : Meaning D) (disk asked : D) (limit : ℕ) (it : Surve
         leaves = λ image tells. since new.disk old.geometry.size (Err (faults.DiskWrite makes.0)) image tells
             (makes.6 image (is_fresh is image tells));
         rose = subst (λ (n : ℕ). Rose n (m.faults new.disk)) steady_of_old makes.2;
+        failed_writes = subst (λ (n : ℕ). Rose n (m.failed_writes new.disk)) none_of_old makes.7;
         same = same_then new.disk makes.3 makes.4;
         within = λ image held. subst (λ (n : ℕ). HasAtMost m new.disk n) (limit_of_old image held) makes.5;
       }))
@@ -186,7 +194,7 @@ pub not_asked : {D T E : Type 0} (m : Meaning D) (disk asked : D) (limit : ℕ) 
     → OnlyAsks {T = T} m disk asked (Err error) → IsSameDisk m disk asked → told ≡ Space (space.Pool (faults.DiskRead count))
     → FailsToPrepare m disk asked limit told
 not_asked m disk asked limit error count told asks same is = subst (FailsToPrepare m disk asked limit) (sym is)
-    (unasked count asks.content same (asks.cause refl))
+    (unasked count asks.content same (asks.cause refl, asks.none_failed))
 
 -- there was no memory for the cache
 pub not_held : {D : Type 0} (m : Meaning D) (disk asked back : D) (limit : ℕ) (told : OpenFault)

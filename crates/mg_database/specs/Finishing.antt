@@ -1,6 +1,6 @@
 -- The pages are written at the end.
 use Rattle.std.specs.Prelude.{◌≡◌, ℕ, true, List, [], ◌∷◌, None, Some, Result, Ok, Err}
-use Rattle.mg_base.specs.Disk.{MayLeave, Meaning, Rose}
+use Rattle.mg_base.specs.Disk.{FailsNoWrite, MayLeave, Meaning, Rose}
 use Rattle.mg_base.specs.Image.{Image, page_at}
 use Rattle.mg_format.specs.Format.{IsClean}
 use Rattle.mg_pool.specs.Pool.{IsPool, KeepsContent, shown}
@@ -32,6 +32,7 @@ pub record FailsWriting {D : Type 0} (m : Meaning D) (old new : Pool D FireLinks
     pub run : HasWrittenOn m old mid
     pub fails : FailsWrites m mid new (DiskWrite count)
     pub rose : Rose (m.faults old.disk) (m.faults new.disk)
+    pub failed_writes : Rose (m.failed_writes old.disk) (m.failed_writes new.disk)
 
 -- every page was written, or a page write failed
 abbrev pub WritesAll : {D : Type 0} → Meaning D → Pool D FireLinks → Pool D FireLinks
@@ -49,6 +50,7 @@ pub record Ends {D : Type 0} (m : Meaning D) (old new : Pool D FireLinks) : Type
   pub settles : KeepsContent m written.disk new.disk
   -- no call of the disk has failed
   pub steady : m.faults new.disk ≡ m.faults old.disk
+  pub none_failed : FailsNoWrite m old.disk new.disk
   pub holds : (image now : Image) → Tells m old.disk image → m.held new.disk ≡ Some now
       → (page : ℕ) → page_at old.dirty.size now page ≡ shown old.dirty image page
   pub durable : m.tells old.disk ≡ true → (c : Image) → MayLeave m new.disk c
@@ -62,7 +64,8 @@ pub data FailsToEnd {D : Type 0} (m : Meaning D) (old new : Pool D FireLinks) : 
         → FailsToEnd m old new (Offline count)
     unwritten : (count : ℕ) → FailsWriting m old new count → FailsToEnd m old new (DiskWrite count)
     unsettled : (count : ℕ) (written : Pool D FireLinks) → HasWrittenOn m old written → IsClean written
-        → KeepsContent m written.disk new.disk → Rose (m.faults old.disk) (m.faults new.disk)
+        → KeepsContent m written.disk new.disk
+        → Rose (m.faults old.disk) (m.faults new.disk) × Rose (m.failed_writes old.disk) (m.failed_writes new.disk)
         → FailsToEnd m old new (DiskWrite count)
 
 abbrev pub Finishes : {D : Type 0} → Meaning D → Pool D FireLinks → Pool D FireLinks

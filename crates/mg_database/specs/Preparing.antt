@@ -1,6 +1,6 @@
 -- A disk becomes one whose pages may be read.
 use Rattle.std.specs.Prelude.{◌≡◌, ℕ, Bool, true, false, length, None, Some, Result, Ok, Err}
-use Rattle.mg_base.specs.Disk.{Meaning, Rose}
+use Rattle.mg_base.specs.Disk.{FailsNoWrite, Meaning, Rose}
 use Rattle.mg_base.specs.Image.{Image}
 use Rattle.mg_format.specs.Format.{FormatDone, IsClean, IsFresh, IsUnmadeImage, SaysAlike}
 use Rattle.mg_pool.specs.Pool.{HasAtMost, IsPool, KeepsContent}
@@ -37,6 +37,7 @@ pub record IsPrepared {D : Type 0} (m : Meaning D) (disk : D) (limit : ℕ) (sto
       → store.geometry.limit ≡ limit_of limit (length image)
   -- no call of the disk has failed
   pub steady : m.faults store.disk ≡ m.faults disk
+  pub none_failed : FailsNoWrite m disk store.disk
   pub reads : ReadsHead m disk store.disk store.geometry.size
   pub same : IsSameDisk m disk store.disk
 
@@ -48,13 +49,15 @@ pub record FailsToMake {D : Type 0} (m : Meaning D) (old new : D) (limit count :
   pub leaves : (image : Image) → Tells m old image
       → FormatDone m old new size (Err (faults.DiskWrite count))
   pub rose : Rose (m.faults old) (m.faults new)
+  pub failed_writes : Rose (m.failed_writes old) (m.failed_writes new)
   pub same : IsSameDisk m old new
   -- the disk has no more pages than the page limit
   pub within : (image : Image) → m.held old ≡ Some image → HasAtMost m new (limit_of limit (length image))
 
 -- why a disk does not become one whose pages may be read, and what becomes of it
 pub data FailsToPrepare {D : Type 0} (m : Meaning D) (old new : D) (limit : ℕ) : OpenFault → Type 0 where
-  unasked : (count : ℕ) → KeepsContent m old new → IsSameDisk m old new → Rose (m.faults old) (m.faults new)
+  unasked : (count : ℕ) → KeepsContent m old new → IsSameDisk m old new
+      → Rose (m.faults old) (m.faults new) × FailsNoWrite m old new
       → FailsToPrepare m old new limit (Space (space.Pool (faults.DiskRead count)))
   no_memory : KeepsContent m old new → IsSameDisk m old new → m.faults new ≡ m.faults old
       → FailsToPrepare m old new limit (Space (space.Pool faults.Memory))
@@ -73,6 +76,7 @@ pub record Makes {D : Type 0} (m : Meaning D) (old new : Pool D FireLinks) : Typ
   pub clean : IsClean new
   pub online : new.offline ≡ None
   pub steady : m.faults new.disk ≡ m.faults old.disk
+  pub none_failed : FailsNoWrite m old.disk new.disk
   pub says : SaysAlike m old.disk new.disk
   pub done : (image : Image) → IsFresh m old image
       → FormatDone {E = PoolFault} m old.disk new.disk old.geometry.size (Ok tt)
@@ -90,3 +94,4 @@ MakesIf {D} m true old new (Err fault) = (count : ℕ) × (fault ≡ faults.Disk
     × HasAtMost m new.disk old.geometry.limit
     × ((image : Image) → IsFresh m old image
     → FormatDone m old.disk new.disk old.geometry.size (Err (faults.DiskWrite count)))
+    × Rose (m.failed_writes old.disk) (m.failed_writes new.disk)

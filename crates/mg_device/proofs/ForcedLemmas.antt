@@ -1,7 +1,7 @@
 -- A page write that is forced, and what is known of a disk that forces each.
 use Rattle.std.specs.Prelude.{◌≡◌, ◌⊎◌, ℕ, ◌≤◌, true, false, Option, Some, None, Result, Ok, Err, IsErr, OnOk, OnErr, List, [], ◌∷◌, length, max, ◌+◌}
 use Rattle.std.proofs.Common.{refl, arith, inl, inr, sym, ap, ◌∙◌, subst}
-use Rattle.mg_base.specs.Disk.{Calm, Elapses, Keeps, KeepsReads, MayLeave, Meaning, Rose, Stays, Writes}
+use Rattle.mg_base.specs.Disk.{Calm, CountsFailedWrite, Elapses, Keeps, KeepsReads, MayLeave, Meaning, Rose, Stays, Writes}
 use Rattle.mg_base.specs.Image.{Image, written}
 use Rattle.mg_device.specs.Device.{DeviceMeaning, IsDevice, PageWrite, Pends, Reaches, Syncs, after_write, as_disk, written_through}
 use Rattle.mg_device.specs.DeviceLaws.{calm_of_sync, device_counts_now, device_holds, reaches_none, reaches_one, same_crash}
@@ -315,6 +315,18 @@ module _ {V : Type 0} (m : DeviceMeaning V) where
       by (Ok x) is = omega (arith, is, same)
       by (Err e) is = tt
 
+  pub keeps_counted : {T E : Type 0} (old mid : ForcedWrites V) (count : ℕ) (result : Result T E) → Keeps (forced_meaning m) old mid result
+      → Keeps (forced_meaning m) old (record mid { failed_writes = count }) result
+  keeps_counted old mid count result keeps = record {
+    size = keeps.size;
+    tells = keeps.tells;
+    most_writes = keeps.most_writes;
+    time = λ told. let t = keeps.time told in record { later = t.later; nothing_else = t.nothing_else; keeps = t.keeps };
+    never_falls = keeps.never_falls;
+    cause = keeps.cause;
+    steady = keeps.steady;
+  }
+
   pub calm_forced : {T E : Type 0} (old new : ForcedWrites V) (result : Result T E) → new.refused ≡ old.refused
       → Calm (as_disk m) old.device new.device result → Calm (forced_meaning m) old new result
   calm_forced old new result same calm = record {
@@ -338,6 +350,62 @@ module _ {V : Type 0} (m : DeviceMeaning V) where
     unread = record { reads = refl; was_read = λ n. refl };
     keeps = keeps_forced old new result same writes.keeps;
   }
+
+-- What a call left, with one failure more counted or none.
+module _ {V : Type 0} (m : DeviceMeaning V) where
+  pub calm_counted : {T E : Type 0} (old mid new : ForcedWrites V) (result : Result T E) → new ≡ record mid { failed_writes = new.failed_writes }
+      → Calm (forced_meaning m) old mid result → Calm (forced_meaning m) old new result
+  calm_counted old mid new result same calm = subst (λ (d : ForcedWrites V). Calm (forced_meaning m) old d result) (sym same) (record {
+    keeps = keeps_counted m old mid new.failed_writes result calm.keeps;
+    count = calm.count;
+    held = calm.held;
+    crash = calm.crash;
+    asked = calm.asked;
+  })
+
+  pub writes_counted : {T E : Type 0} (old mid new : ForcedWrites V) (page : ℕ) (bytes : List ℕ) (result : Result T E)
+      → new ≡ record mid { failed_writes = new.failed_writes } → Writes (forced_meaning m) old mid page bytes result
+      → Writes (forced_meaning m) old new page bytes result
+  writes_counted old mid new page bytes result same writes = subst (λ (d : ForcedWrites V). Writes (forced_meaning m) old d page bytes result) (sym same) (record {
+    count = writes.count;
+    stored = writes.stored;
+    failed = writes.failed;
+    failed_count = writes.failed_count;
+    crash = writes.crash;
+    untold = writes.untold;
+    asked = writes.asked;
+    unread = record { reads = writes.unread.reads; was_read = writes.unread.was_read };
+    keeps = keeps_counted m old mid new.failed_writes result writes.keeps;
+  })
+
+  pub durable_counted : {T E : Type 0} (old mid new : ForcedWrites V) (result : Result T E) → new ≡ record mid { failed_writes = new.failed_writes }
+      → OnOk result (m.tells old.device ≡ true → (c : Image) → MayLeave (forced_meaning m) mid c → (forced_meaning m).held mid ≡ Some c)
+      → OnOk result (m.tells old.device ≡ true → (c : Image) → MayLeave (forced_meaning m) new c → (forced_meaning m).held new ≡ Some c)
+  durable_counted old mid new result same durable = subst (λ (d : ForcedWrites V). OnOk result (m.tells old.device ≡ true → (c : Image)
+      → MayLeave (forced_meaning m) d c → (forced_meaning m).held d ≡ Some c)) (sym same) durable
+
+  pub forced_counted : {T E : Type 0} (mid new : V) (result : Result T E) → new ≡ mid → OnOk result (m.pending mid ≡ [])
+      → OnOk result (m.pending new ≡ [])
+  forced_counted mid new result same empty = subst (λ (d : V). OnOk result (m.pending d ≡ [])) (sym same) empty
+
+  pub cause_counted : {T E : Type 0} (old mid new : V) (result : Result T E) → new ≡ mid
+      → (IsErr result → (m.failed old ≡ true) ⊎ Rose (m.faults old) (m.faults mid))
+      → IsErr result → (m.failed old ≡ true) ⊎ Rose (m.faults old) (m.faults new)
+  cause_counted old mid new result same cause =
+      subst (λ (d : V). IsErr result → (m.failed old ≡ true) ⊎ Rose (m.faults old) (m.faults d)) (sym same) cause
+
+  pub failed_counted : {T E : Type 0} (old mid new : ForcedWrites V) (result : Result T E) → mid.failed_writes ≡ old.failed_writes
+      → mid.failed_writes ≤ new.failed_writes → (IsErr result → Rose mid.failed_writes new.failed_writes)
+      → OnOk result (new.failed_writes ≡ mid.failed_writes) → CountsFailedWrite (forced_meaning m) old new result
+  failed_counted {T} {E} old mid new result before more rose steady = record {
+    never_falls = omega (arith, before, more);
+    cause = λ no. subst (λ (k : ℕ). Rose k new.failed_writes) before (rose no);
+    steady = by result steady;
+  }
+    where
+      by : (result : Result T E) → OnOk result (new.failed_writes ≡ mid.failed_writes) → OnOk result (new.failed_writes ≡ old.failed_writes)
+      by (Ok x) same = same ∙ before
+      by (Err e) same = tt
 
 -- A fault that is handed on.
 module _ {D : Type 0} (m : Meaning D) where

@@ -48,7 +48,8 @@ abbrev pub written_through : Option Image → List PageWrite → Option Image
 written_through None ws = None
 written_through (Some image) ws = Some (after_writes image ws)
 
--- a device read as a disk, which holds what was synced with every page write since then
+-- a device read as a disk, which holds what was synced with every page write since then, and counts neither what it is
+-- asked for nor which of its faults were of page writes
 abbrev pub as_disk : {V : Type 0} → DeviceMeaning V → Meaning V
 as_disk m = record {
   size = m.size;
@@ -58,6 +59,7 @@ as_disk m = record {
   moment = m.moment;
   left = m.left;
   faults = m.faults;
+  failed_writes = λ v. 0;
   asked = λ v. 0;
   reads = λ v. 0;
   was_read = λ v n. false;

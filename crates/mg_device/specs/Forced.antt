@@ -4,7 +4,8 @@ use Rattle.mg_base.specs.Disk.{Meaning, Rose}
 use Rattle.mg_device.specs.Device.{DeviceMeaning, as_disk}
 use Rattle.mg_device.specs.declared.forced.ForcedWrites.{ForcedWrites}
 
--- It tells what the device tells, read as a disk. Its faults are those of the device, and the calls that it refused.
+-- It tells what the device tells, read as a disk. Its faults are those of the device, and the calls that it refused. A page
+-- write or a settling that fails is counted as such, whatever it failed by.
 abbrev pub forced_meaning : {V : Type 0} → DeviceMeaning V → Meaning (ForcedWrites V)
 forced_meaning m = record {
   size = λ d. m.size d.device;
@@ -14,6 +15,7 @@ forced_meaning m = record {
   moment = λ d. m.moment d.device;
   left = λ d t c. m.left d.device t c;
   faults = λ d. m.faults d.device + d.refused;
+  failed_writes = λ d. d.failed_writes;
   asked = λ d. 0;
   reads = λ d. 0;
   was_read = λ d n. false;

@@ -11,6 +11,8 @@ pub struct ForcedWrites<V> {
     device: V,
     // How often a call was refused, since a page write or a sync had failed.
     refused: u64,
+    // How many page writes failed, and how often the settling did.
+    failed_writes: u64,
 }
 
 impl<V> ForcedWrites<V> {
@@ -22,7 +24,11 @@ impl<V> ForcedWrites<V> {
     pub fn new(device: V) -> ForcedWrites<V>
         ensures { device_of result ≡ device }
     {
-        ForcedWrites { device, refused: 0 }
+        ForcedWrites {
+            device,
+            refused: 0,
+            failed_writes: 0,
+        }
     }
 
     /// The device itself.
@@ -35,8 +41,8 @@ impl<V> ForcedWrites<V> {
 }
 
 impl<V: Device> ForcedWrites<V> {
-    ghost use Rattle.std.specs.Prelude.{◌≡◌, [], true, false, Some, IsErr, OnOk, length};
-    ghost use Rattle.mg_base.specs.Disk.{Calm, Writes};
+    ghost use Rattle.std.specs.Prelude.{◌≡◌, ◌≤◌, [], true, false, Some, IsErr, OnOk, length};
+    ghost use Rattle.mg_base.specs.Disk.{Calm, Rose, Writes};
     ghost use Rattle.mg_device.specs.Forced.{HasCause, device_of, forced_meaning};
 
     // Syncs what is pending.
@@ -47,6 +53,7 @@ impl<V: Device> ForcedWrites<V> {
         ensures refused { V.meaning.failed (device_of self.old) ≡ true → IsErr result }
         ensures cause { HasCause V.meaning self.old self.new result }
         ensures calm { Calm (forced_meaning V.meaning) self.old self.new result }
+        ensures uncounted { self.new.failed_writes ≡ self.old.failed_writes }
     {
         if self.device.has_failed() {
             self.refused = self.refused.saturating_add(1);
@@ -66,15 +73,42 @@ impl<V: Device> ForcedWrites<V> {
         ensures writes { Writes (forced_meaning V.meaning) self.old self.new page.0 bytes.now result }
         ensures forced { OnOk result (V.meaning.pending (device_of self.new) ≡ []) }
         ensures cause { HasCause V.meaning self.old self.new result }
+        ensures uncounted { self.new.failed_writes ≡ self.old.failed_writes }
     {
         self.device.write(page, bytes)?;
         self.device.sync()
+    }
+
+    // Syncs what is pending, writes a page, and waits until it is on the device.
+    fn write_out(&mut self, page: PageNo, bytes: &[u8]) -> Result<(), DiskFault>
+        requires whole { V.meaning.size (device_of self.old) ≡ Some (length bytes.now) }
+        ensures writes { Writes (forced_meaning V.meaning) self.old self.new page.0 bytes.now result }
+        ensures forced { OnOk result (V.meaning.pending (device_of self.new) ≡ []) }
+        ensures refused { V.meaning.failed (device_of self.old) ≡ true → IsErr result }
+        ensures cause { HasCause V.meaning self.old self.new result }
+        ensures uncounted { self.new.failed_writes ≡ self.old.failed_writes }
+    {
+        self.clear()?;
+        self.force(page, bytes)
+    }
+
+    // Counts a page write or a settling that failed.
+    fn count_failed(&mut self, answer: &Result<(), DiskFault>)
+        ensures same { self.new ≡ record self.old { failed_writes = self.new.failed_writes } }
+        ensures device { device_of self.new ≡ device_of self.old }
+        ensures never_falls { self.old.failed_writes ≤ self.new.failed_writes }
+        ensures rose { IsErr answer.now → Rose self.old.failed_writes self.new.failed_writes }
+        ensures steady { OnOk answer.now (self.new.failed_writes ≡ self.old.failed_writes) }
+    {
+        if answer.is_err() {
+            self.failed_writes = self.failed_writes.saturating_add(1);
+        }
     }
 }
 
 impl<V: Device> Disk for ForcedWrites<V> {
     ghost use Rattle.std.specs.Prelude.{◌≡◌, ◌<◌, ℕ, [], true, Some, IsErr, IfOk, OnOk, length, unwrap_or};
-    ghost use Rattle.mg_base.specs.Disk.{Calm, KeepsReads, MayLeave, ReadsPage, Writes};
+    ghost use Rattle.mg_base.specs.Disk.{Calm, CountsFailedWrite, FailsNoWrite, KeepsReads, MayLeave, ReadsPage, Writes};
     ghost use Rattle.mg_base.specs.Image.{Image, page_at};
     ghost use Rattle.mg_device.specs.Forced.{HasCause, device_of, forced_meaning};
     ghost use Rattle.mg_device.specs.DeviceLaws.{device_counted, device_counts_now, device_holds};
@@ -103,6 +137,7 @@ impl<V: Device> Disk for ForcedWrites<V> {
             → into.new ≡ page_at (length into.old) image page.0) }
         ensures calm { Calm (forced_meaning V.meaning) self.old self.new result }
         ensures reads { ReadsPage (forced_meaning V.meaning) self.old self.new page.0 }
+        ensures no_failed_write { FailsNoWrite (forced_meaning V.meaning) self.old self.new }
         ensures refused { V.meaning.failed (device_of self.old) ≡ true → IsErr result }
         ensures cause { HasCause V.meaning self.old self.new result }
     {
@@ -114,12 +149,14 @@ impl<V: Device> Disk for ForcedWrites<V> {
     fn write(&mut self, page: PageNo, bytes: &[u8]) -> Result<(), DiskFault>
         requires whole { V.meaning.size (device_of self.old) ≡ Some (length bytes.now) }
         ensures writes { Writes (forced_meaning V.meaning) self.old self.new page.0 bytes.now result }
+        ensures failed_writes { CountsFailedWrite (forced_meaning V.meaning) self.old self.new result }
         ensures forced { OnOk result (V.meaning.pending (device_of self.new) ≡ []) }
         ensures refused { V.meaning.failed (device_of self.old) ≡ true → IsErr result }
         ensures cause { HasCause V.meaning self.old self.new result }
     {
-        self.clear()?;
-        self.force(page, bytes)
+        let written = self.write_out(page, bytes);
+        self.count_failed(&written);
+        written
     }
 
     /// It fails where a page write or a sync has failed before.
@@ -128,9 +165,12 @@ impl<V: Device> Disk for ForcedWrites<V> {
             → MayLeave (forced_meaning V.meaning) self.new c → (forced_meaning V.meaning).held self.new ≡ Some c) }
         ensures calm { Calm (forced_meaning V.meaning) self.old self.new result }
         ensures unread { KeepsReads (forced_meaning V.meaning) self.old self.new }
+        ensures failed_writes { CountsFailedWrite (forced_meaning V.meaning) self.old self.new result }
         ensures refused { V.meaning.failed (device_of self.old) ≡ true → IsErr result }
         ensures cause { HasCause V.meaning self.old self.new result }
     {
-        self.clear()
+        let settled = self.clear();
+        self.count_failed(&settled);
+        settled
     }
 }

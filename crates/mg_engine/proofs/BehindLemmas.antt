@@ -34,9 +34,11 @@ module _ {R P : Type 0} (m : Means R P) (old mid new : R) (first : Reads m old m
   causes_behind : (refusal : Option Refusal) → Causes m mid new refusal → Causes m old new refusal
   causes_behind None cause = tt
   causes_behind (Some (DiskRead count)) cause =
-      rose_behind (m.faults old) (m.faults mid) (m.faults new) first.keeps.faults cause
-  causes_behind (Some (DiskWrite count)) cause =
-      rose_behind (m.faults old) (m.faults mid) (m.faults new) first.keeps.faults cause
+      rose_behind (m.faults old) (m.faults mid) (m.faults new) first.keeps.faults.0 cause
+  causes_behind (Some (DiskWrite count)) cause = (
+    rose_behind (m.faults old) (m.faults mid) (m.faults new) first.keeps.faults.0 cause.0,
+    rose_behind (m.failed_writes old) (m.failed_writes mid) (m.failed_writes new) first.keeps.faults.1 cause.1,
+  )
   causes_behind (Some (Damaged page field found wanted)) cause =
       rose_behind (m.damage old) (m.damage mid) (m.damage new) first.keeps.damage cause
   causes_behind (Some (DatabaseFull limit)) cause = (
@@ -55,7 +57,10 @@ module _ {R P : Type 0} (m : Means R P) (old mid new : R) (first : Reads m old m
 
   keeps_behind : (refusal : Option Refusal) → Keeps m mid new refusal → Keeps m old new refusal
   keeps_behind refusal second = record {
-    faults = at_most (m.faults old) (m.faults mid) (m.faults new) first.keeps.faults second.faults;
+    faults = (
+      at_most (m.faults old) (m.faults mid) (m.faults new) first.keeps.faults.0 second.faults.0,
+      at_most (m.failed_writes old) (m.failed_writes mid) (m.failed_writes new) first.keeps.faults.1 second.faults.1,
+    );
     damage = at_most (m.damage old) (m.damage mid) (m.damage new) first.keeps.damage second.damage;
     shortages = at_most (m.shortages old) (m.shortages mid) (m.shortages new) first.keeps.shortages second.shortages;
     cause = causes_behind refusal second.cause;
@@ -143,7 +148,7 @@ module _ {R P : Type 0} (m : Means R P) (old mid new : R) (first : Reads m old m
 module _ {D : Type 0} (m : Meaning D) (places : Places Place) (old mid new : Core D)
     (first : OnlyLooks m places old mid None) where
   pub told_behind : (refusal : Option Refusal) → TellsFaults m mid new refusal → TellsFaults m old new refusal
-  told_behind refusal second quiet = second quiet ∙ first.told refl
+  told_behind refusal second k quiet = second k quiet ∙ first.told k refl
 
   pub undamaged_behind : DamageStands m mid new → DamageStands m old new
   undamaged_behind second o h stands told =

@@ -16,7 +16,7 @@ use Rattle.mg_engine.specs.Noting.{HasNoted, NotesKeys, OnlyLooks}
 use Rattle.mg_engine_changes.specs.Notes.{AreCounts}
 use Rattle.mg_engine_changes.specs.Refusals.{RefusesStill}
 use Rattle.mg_engine_changes.specs.Steps.{NotedFailsApart, NotedFailsGive, NotedWritesApart, NotedWritesGive}
-use Rattle.mg_engine_changes.specs.Told.{WritesTell}
+use Rattle.mg_engine_changes.specs.Told.{WritesTell, disk_count}
 use Rattle.mg_engine_changes.specs.Unread.{LeavesUnread, UnreadWritesGive}
 use Rattle.mg_engine_meaning.specs.Counts.{HasCounts}
 use Rattle.mg_engine_meaning.specs.Frames.{GivesEvent}
@@ -133,7 +133,7 @@ module _ {D : Type 0} (m : Meaning D) (parts : ChangeParts m) (places : Places P
         → GivesWrite m places old new t table write (Err refusal)
     unread core refusal is = record {
       gives = still.gives;
-      told = λ quiet. ap (λ (c : Core D). m.faults c.store.disk) is.ends.same ∙ looks.told quiet;
+      told = λ k quiet. ap (λ (c : Core D). disk_count m k c.store.disk) is.ends.same ∙ looks.told k quiet;
       undamaged = λ o h stands told. ap (λ (c : Core D). c.damage) is.ends.same ∙ looks.undamaged o h stands told;
       room = λ o h stands told. room_up m old new (Some refusal) 0 pages_of_row (omega arith)
           (subst (λ (c : Core D). CoreTakes m old c (Some refusal) 0) (sym is.ends.same)

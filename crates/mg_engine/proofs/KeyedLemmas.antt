@@ -248,7 +248,7 @@ module _ {D : Type 0} (m : Meaning D) (parts : KeyParts m) (places : Places Plac
         reads = both.0;
         crash = both.1;
         sessions = sessions_of m places old (record old { store = new.store }) t.0 (works_same old.works t.0);
-        told = λ quiet. faults;
+        told = λ k quiet. only_read m k old new is.reads.reads;
         undamaged = λ o h stands told_. refl;
         room = λ o h stands told_. room_alike m old (record old { store = new.store }) None
             (λ i tells. record {
@@ -259,9 +259,6 @@ module _ {D : Type 0} (m : Meaning D) (parts : KeyParts m) (places : Places Plac
         unwritten = is.reads.reads.keeps.disk.asked;
       })
     where
-      faults : m.faults new.store.disk ≡ m.faults old.store.disk
-      faults = only_read m old new is.reads.reads
-
       both : Reads (means m places) old (record old { store = new.store }) None None
           × LeavesQuietly (means m places) old (record old { store = new.store })
       both = parts.reads places old new.store old.damage old.shortages None None is.reads.reads.keeps (omega arith)
@@ -280,7 +277,7 @@ module _ {D : Type 0} (m : Meaning D) (parts : KeyParts m) (places : Places Plac
         reads = none.reads;
         crash = none.crash;
         sessions = none.sessions;
-        told = λ quiet. refl;
+        told = λ k quiet. refl;
         undamaged = λ o h stands told_. refl;
         room = λ o h stands told_. room_kept m old old (Some refusal) refl
             (refused_by old.store.offline (said old.list t.0) refusal refuses);

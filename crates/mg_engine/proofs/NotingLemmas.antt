@@ -128,7 +128,7 @@ module _ {D : Type 0} (m : Meaning D) (parts : NoteParts m) (places : Places Pla
           record { each = quiet.each; before = quiet.before };
       sessions = sessions_of m places old (record old { store = new.store; directories = new.directories }) t.0
           (works_same old.works t.0);
-      told = λ quiet. only_read m old (record old { store = new.store })
+      told = λ k quiet. only_read m k old (record old { store = new.store })
           (record { keeps = makes.keeps; online = makes.online; same = refl });
       undamaged = λ o h stands told. refl;
       room = λ o h stands told. room_alike m old (record old { store = new.store; directories = new.directories }) None

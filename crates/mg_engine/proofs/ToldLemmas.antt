@@ -3,7 +3,8 @@ use Rattle.std.proofs.Common.{◌≡◌, inl, inr, ◌*◌, ℕ, Option, Some, a
 use Rattle.mg_base.specs.Disk.{Meaning}
 use Rattle.mg_core.specs.declared.parts.Core.{Core}
 use Rattle.mg_engine_changes.specs.Outcomes.{IsRolledShort}
-use Rattle.mg_engine_changes.specs.Told.{TellsFaults}
+use Rattle.mg_engine_changes.specs.Told.{TellsFaults, disk_count}
+use Rattle.mg_faults.specs.Faults.{each_fault, failed_writes}
 use Rattle.mg_no_damage.specs.Stands.{DamageStands}
 use Rattle.mg_no_damage.specs.FewPages.{CoreTakes, RoomStands, RoomStandsBack}
 use Rattle.mg_engine_meaning.specs.Meaning.{Places, means}
@@ -18,13 +19,13 @@ use Rattle.mg_records.specs.Room.{TakesAtMost, TakesFew, TakesFewBack, pages_of_
 pub told_as : {D P : Type 0} (m : Meaning D) (places : Places P) (inside old new : Core D) → inside ≡ old
     → (refusal : Option Refusal) → TellsFaults m inside new refusal → FaultsAreTold (means m places) old new refusal
 told_as {D} m places inside old new same refusal tells =
-    subst (λ (c : Core D). FaultsAreTold (means m places) c new refusal) same tells
+    subst (λ (c : Core D). FaultsAreTold (means m places) c new refusal) same (tells each_fault, tells failed_writes)
 
 -- a transaction was rolled back for want of memory
 pub rolled_told : {D : Type 0} (m : Meaning D) (old new : Core D) (t : ℕ) (refusal : Refusal)
     → IsRolledShort old new t refusal → TellsFaults m old new (Some refusal)
-rolled_told {D} m old new t refusal (inl rolls) quiet = ap (λ (c : Core D). m.faults c.store.disk) rolls.0.same
-rolled_told {D} m old new t refusal (inr refused) quiet = ap (λ (c : Core D). m.faults c.store.disk) refused.wait.same
+rolled_told {D} m old new t refusal (inl rolls) k quiet = ap (λ (c : Core D). disk_count m k c.store.disk) rolls.0.same
+rolled_told {D} m old new t refusal (inr refused) k quiet = ap (λ (c : Core D). disk_count m k c.store.disk) refused.wait.same
 
 pub undamaged_as : {D P : Type 0} (m : Meaning D) (places : Places P) (inside old new : Core D) → inside ≡ old
     → DamageStands m inside new → MeetsNoDamage (means m places) old new

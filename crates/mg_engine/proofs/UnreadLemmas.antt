@@ -58,7 +58,7 @@ module _ {D : Type 0} (m : Meaning D) (reads : ReadsGoOn D Place m) (places : Pl
           damage = new.damage;
           shortages = new.shortages;
         }) t.0 (works_same old.works t.0));
-    told = not_read m old new why refusal is;
+    told = λ k. not_read m k old new why refusal is;
     undamaged = λ o h stands told. unread_stands m old new why refusal is (whole o h stands told);
     room = λ o h stands told. room_alike m old new (Some refusal)
         (λ i tells. record {

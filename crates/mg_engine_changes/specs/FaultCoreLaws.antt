@@ -16,38 +16,39 @@ use Rattle.mg_core.specs.Obstacles.{HindersBy, Passes, Stops, TellsVerdict, hind
 use Rattle.mg_core.specs.Putting.{CountsOne}
 use Rattle.mg_core.specs.Reading.{FailsReading, OnlyReads}
 use Rattle.mg_engine_changes.specs.FaultPageLaws.{is_none, met, told}
-use Rattle.mg_engine_changes.specs.Told.{Stands, TellsFaults}
+use Rattle.mg_faults.specs.Faults.{FaultCount}
+use Rattle.mg_engine_changes.specs.Told.{Stands, TellsRise, disk_count}
 
-module _ {D : Type 0} (m : Meaning D) where
+module _ {D : Type 0} (m : Meaning D) (k : FaultCount) where
   -- an engine has the store that it had
   abbrev pub count : Core D → ℕ
-  count core = m.faults core.store.disk
+  count core = disk_count m k core.store.disk
 
-  pub ended : (old new : Core D) (t : ℕ) → EndsWait old new t → Stands m old.store new.store
+  pub ended : (old new : Core D) (t : ℕ) → EndsWait old new t → Stands m k old.store new.store
   ended old new t wait = ap count wait.same
 
   pub refused : (old new : Core D) (t : ℕ) (refusal : Refusal) → IsRefused old new t refusal
-      → Stands m old.store new.store
+      → Stands m k old.store new.store
   refused old new t refusal is = ended old new t is.wait
 
   pub counted : (old new : Core D) (fault : SpaceFault) (refusal : Refusal) → CountsOne old new fault refusal
-      → Stands m old.store new.store
+      → Stands m k old.store new.store
   counted old new fault refusal is = ap count is.same
 
   -- ---- pages are read
 
-  pub only_read : (old new : Core D) → OnlyReads m old new → Stands m old.store new.store
-  only_read old new reads = met m old.store new.store reads.online
+  pub only_read : (old new : Core D) → OnlyReads m old new → Stands m k old.store new.store
+  only_read old new reads = met m k old.store new.store reads.online
 
   pub not_read : (old new : Core D) (why : Pool D FireLinks → Pages → SpaceFault → Type 0) (refusal : Refusal)
-      → FailsReading m old new why refusal → TellsFaults m old new (Some refusal)
+      → FailsReading m old new why refusal → TellsRise m k old new (Some refusal)
   not_read old new why refusal fails quiet =
-      told m (Unit {0}) old.store new.store fails.fault fails.told (is_none fails.fault refusal fails.is quiet)
+      told m k (Unit {0}) old.store new.store fails.fault fails.told (is_none k fails.fault refusal fails.is quiet)
 
   -- ---- who is in the way
 
   verdict_stands : (old new : Core D) (t : ℕ) (by : TxNo) (verdict : Verdict) (refusal : Refusal)
-      → TellsVerdict old new t by verdict refusal → Stands m old.store new.store
+      → TellsVerdict old new t by verdict refusal → Stands m k old.store new.store
   verdict_stands old new t by verdicts.Update refusal tells = ap count tells.1
   verdict_stands old new t by verdicts.Lock refusal tells = ap count tells.1
   verdict_stands old new t by verdicts.Wait refusal (inl notes) = ap count notes.same
@@ -56,18 +57,18 @@ module _ {D : Type 0} (m : Meaning D) where
   verdict_stands old new t by verdicts.Limbo refusal tells = ap count tells.1
 
   hinders_stand : (old new : Core D) (t : ℕ) (wait : Bool) (found : Option Obstacle) (refusal : Refusal)
-      → HindersBy old new t wait found refusal → Stands m old.store new.store
+      → HindersBy old new t wait found refusal → Stands m k old.store new.store
   hinders_stand old new t wait None refusal hinders = absurd hinders
   hinders_stand old new t wait (Some obstacle) refusal hinders =
       verdict_stands old new t obstacle.by hinders.verdict refusal hinders.told
 
   pub passes_stand : (old new : Core D) (t : ℕ) (wait : Bool) (is : Pages → Option Obstacle → Type 0)
-      → Passes m old new t wait is → Stands m old.store new.store
+      → Passes m old new t wait is → Stands m k old.store new.store
   passes_stand old new t wait is passes = only_read old new passes.reads
 
   pub stops_told : (old new : Core D) (t : ℕ) (wait : Bool) (is : Pages → Option Obstacle → Type 0)
       (why : Pool D FireLinks → Pages → SpaceFault → Type 0) (refusal : Refusal)
-      → Stops m old new t wait is why refusal → TellsFaults m old new (Some refusal)
+      → Stops m old new t wait is why refusal → TellsRise m k old new (Some refusal)
   stops_told old new t wait is why refusal (unread fails) quiet = not_read old new why refusal fails quiet
   stops_told old new t wait is why refusal (hindered read found reads who hinders) quiet =
       hinders_stand read new t wait found refusal hinders ∙ only_read old read reads

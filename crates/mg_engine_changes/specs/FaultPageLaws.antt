@@ -1,13 +1,14 @@
 -- What is told of the disk's faults by calls on the pages.
 use Rattle.std.proofs.Common.{◌≡◌, ℕ, false, Some, Err, refl, sym, ap, ◌∙◌}
 use Rattle.std.proofs.lemmas.Bool.{false≢true}
-use Rattle.mg_base.specs.Disk.{Meaning}
+use Rattle.mg_base.specs.Disk.{FailsNoWrite, Meaning}
 use Rattle.mg_base.specs.Image.{Image}
 use Rattle.mg_base.specs.declared.numbers.RecId.{RecId}
-use Rattle.mg_faults.specs.Faults.{tells_fault}
+use Rattle.mg_faults.specs.Faults.{FaultCount, counts_reads, each_fault, failed_writes, tells_rise}
 use Rattle.mg_model.specs.declared.refusal.Refusal.{Refusal}
 use Rattle.mg_pool.specs.Batch.{Changed}
-use Rattle.mg_pool.specs.Fault.{StaysOnline, TellsFault}
+use Rattle.mg_pool.specs.Fault.{MeetsNoFault, StaysOnline, TellsFault}
+use Rattle.mg_pool.specs.Run.{HasWritten}
 use Rattle.mg_pool.specs.declared.fault.PoolFault.{PoolFault}
 use Rattle.mg_pool.specs.declared.fault.PoolFault.TheVariants as faults
 use Rattle.mg_pool.specs.declared.pool.Pool.{Pool}
@@ -21,66 +22,83 @@ use Rattle.mg_row_writes.specs.Changing.{ChangesOwn, FailsBatch, FailsOwn, not_c
 use Rattle.mg_row_writes.specs.Laying.{FailsLay, FailsNew, FailsOverDead, Lays, no_first, no_place, not_cleared, not_pushed}
 use Rattle.mg_row_writes.specs.declared.before.Way.{Way}
 use Rattle.mg_row_writes.specs.declared.before.Way.TheVariants as ways
-use Rattle.mg_engine_changes.specs.Told.{Stands, is_disks}
+use Rattle.mg_engine_changes.specs.Told.{Stands, disk_count, is_disks}
 
--- a refusal that tells no fault of the disk comes of a fault that is none
-pub is_none : (fault : SpaceFault) (refusal : Refusal) → IsRefusal fault refusal
-    → tells_fault (Some refusal) ≡ false → is_disks fault ≡ false
-is_none (space.Full limit) refusal is quiet = refl
-is_none (space.Damaged it) refusal is quiet = refl
-is_none (space.Pool (faults.DiskRead n)) refusal is quiet =
-    sym (ap (λ (r : Refusal). tells_fault (Some r)) is) ∙ quiet
-is_none (space.Pool (faults.DiskWrite n)) refusal is quiet =
-    sym (ap (λ (r : Refusal). tells_fault (Some r)) is) ∙ quiet
-is_none (space.Pool (faults.Offline n)) refusal is quiet = refl
-is_none (space.Pool (faults.Absent n)) refusal is quiet = refl
-is_none (space.Pool faults.Memory) refusal is quiet = refl
+-- a refusal that tells no rise of a count comes of a fault that is none of it
+pub is_none : (k : FaultCount) (fault : SpaceFault) (refusal : Refusal) → IsRefusal fault refusal
+    → tells_rise k (Some refusal) ≡ false → is_disks k fault ≡ false
+is_none k (space.Full limit) refusal is quiet = refl
+is_none k (space.Damaged it) refusal is quiet = refl
+is_none k (space.Pool (faults.DiskRead n)) refusal is quiet =
+    sym (ap (λ (r : Refusal). tells_rise k (Some r)) is) ∙ quiet
+is_none k (space.Pool (faults.DiskWrite n)) refusal is quiet =
+    sym (ap (λ (r : Refusal). tells_rise k (Some r)) is) ∙ quiet
+is_none k (space.Pool (faults.Offline n)) refusal is quiet = refl
+is_none k (space.Pool (faults.Absent n)) refusal is quiet = refl
+is_none k (space.Pool faults.Memory) refusal is quiet = refl
 
-pub bits_none : (fault : PoolFault) (refusal : Refusal) → IsRefusalOf fault refusal
-    → tells_fault (Some refusal) ≡ false → is_disks (space.Pool fault) ≡ false
-bits_none (faults.DiskRead n) refusal is quiet = sym (ap (λ (r : Refusal). tells_fault (Some r)) is) ∙ quiet
-bits_none (faults.DiskWrite n) refusal is quiet = sym (ap (λ (r : Refusal). tells_fault (Some r)) is) ∙ quiet
-bits_none (faults.Offline n) refusal is quiet = refl
-bits_none (faults.Absent n) refusal is quiet = absurd is
-bits_none faults.Memory refusal is quiet = refl
+pub bits_none : (k : FaultCount) (fault : PoolFault) (refusal : Refusal) → IsRefusalOf fault refusal
+    → tells_rise k (Some refusal) ≡ false → is_disks k (space.Pool fault) ≡ false
+bits_none k (faults.DiskRead n) refusal is quiet = sym (ap (λ (r : Refusal). tells_rise k (Some r)) is) ∙ quiet
+bits_none k (faults.DiskWrite n) refusal is quiet = sym (ap (λ (r : Refusal). tells_rise k (Some r)) is) ∙ quiet
+bits_none k (faults.Offline n) refusal is quiet = refl
+bits_none k (faults.Absent n) refusal is quiet = absurd is
+bits_none k faults.Memory refusal is quiet = refl
 
 module _ {D : Type 0} (m : Meaning D) where
+  -- where the cache met no fault, each count stands
+  counts_stand : {L : Type 0} (k : FaultCount) (a b : Pool D L) → MeetsNoFault m a b → Stands m k a b
+  counts_stand each_fault a b same = ap (λ (counts : ℕ × ℕ × ℕ). counts.1) same
+  counts_stand failed_writes a b same = ap (λ (counts : ℕ × ℕ × ℕ). counts.2) same
+
+  -- where a read failed, the count of failed page writes does
+  reads_stand : {L : Type 0} (k : FaultCount) (a b : Pool D L) → FailsNoWrite m a.disk b.disk → counts_reads k ≡ false
+      → Stands m k a b
+  reads_stand each_fault a b none quiet = absurd (false≢true (sym quiet))
+  reads_stand failed_writes a b none quiet = none
+
+  -- and after page writes that went on each
+  pub run_stands : {L : Type 0} (k : FaultCount) (a b : Pool D L) → HasWritten m a b → Stands m k a b
+  run_stands each_fault a b run = run.steady
+  run_stands failed_writes a b run = run.none_failed
+
+module _ {D : Type 0} (m : Meaning D) (k : FaultCount) where
   -- the cache met no fault
-  pub met : {L : Type 0} (a b : Pool D L) → StaysOnline m a b → Stands m a b
-  met a b online = ap (λ (counts : ℕ × ℕ). counts.1) online.2
+  pub met : {L : Type 0} (a b : Pool D L) → StaysOnline m a b → Stands m k a b
+  met a b online = counts_stand m k a b online.2
 
   pub pool_told : (T : Type 0) {L : Type 0} (a b : Pool D L) (fault : PoolFault) → TellsFault {T = T} m a b (Err fault)
-      → is_disks (space.Pool fault) ≡ false → Stands m a b
-  pool_told T a b (faults.DiskRead n) told quiet = absurd (false≢true (sym quiet))
+      → is_disks k (space.Pool fault) ≡ false → Stands m k a b
+  pool_told T a b (faults.DiskRead n) told quiet = reads_stand m k a b told.3 quiet
   pool_told T a b (faults.DiskWrite n) told quiet = absurd (false≢true (sym quiet))
-  pool_told T a b (faults.Offline n) told quiet = ap (λ (counts : ℕ × ℕ). counts.1) told.2
+  pool_told T a b (faults.Offline n) told quiet = counts_stand m k a b told.2
   pool_told T a b (faults.Absent n) told quiet = met a b told
   pool_told T a b faults.Memory told quiet = met a b told
 
   pub told : (T : Type 0) {L : Type 0} (a b : Pool D L) (fault : SpaceFault)
-      → TellsFault m a b (pool_answer {T = T} (Err fault)) → is_disks fault ≡ false → Stands m a b
+      → TellsFault m a b (pool_answer {T = T} (Err fault)) → is_disks k fault ≡ false → Stands m k a b
   told T a b (space.Full limit) tells quiet = met a b tells
   told T a b (space.Damaged it) tells quiet = met a b tells
   told T a b (space.Pool fault) tells quiet = pool_told (Unit {0}) a b fault tells quiet
 
-  same_stands : (a b : Pool D FireLinks) → b ≡ a → Stands m a b
-  same_stands a b same = ap (λ (p : Pool D FireLinks). m.faults p.disk) same
+  same_stands : (a b : Pool D FireLinks) → b ≡ a → Stands m k a b
+  same_stands a b same = ap (λ (p : Pool D FireLinks). disk_count m k p.disk) same
 
   -- ---- batches
 
   batch_told : (a b : Pool D FireLinks) (batch : Changed) (fault : SpaceFault) → FailsBatch m a b batch fault
-      → is_disks fault ≡ false → Stands m a b
+      → is_disks k fault ≡ false → Stands m k a b
   batch_told a b batch (space.Full limit) fails quiet = absurd fails
   batch_told a b batch (space.Damaged it) fails quiet = same_stands a b fails.same
   batch_told a b batch (space.Pool fault) fails quiet = pool_told (Unit {0}) a b fault fails.told quiet
 
   pub own_stands : {fills : Image → Changed → Type 0} (a b : Pool D FireLinks) → ChangesOwn m a b fills
-      → Stands m a b
+      → Stands m k a b
   own_stands a b own = met own.ready b own.changed.online ∙ met a own.ready own.online
 
   pub own_told : {fills : Image → Changed → Type 0} {refuses : Image → SpaceFault → Type 0}
       (a b : Pool D FireLinks) (fault : SpaceFault) → FailsOwn m a b fills refuses fault
-      → is_disks fault ≡ false → Stands m a b
+      → is_disks k fault ≡ false → Stands m k a b
   own_told a b fault (not_filled keeps alone tells why) quiet = told (Unit {0}) a b fault tells quiet
   own_told a b fault (not_changed batch ready keeps online filled fails) quiet =
       batch_told ready b batch fault fails quiet ∙ met a ready online
@@ -88,7 +106,7 @@ module _ {D : Type 0} (m : Meaning D) where
   -- ---- a version comes into the record of its key
 
   pub lays_stand : (a b : Pool D FireLinks) (owner : ℕ) (way : Way) (v : Version) → Lays m a b owner way v
-      → Stands m a b
+      → Stands m k a b
   lays_stand a b owner ways.Make v lays = own_stands lays.placed b lays.makes ∙ own_stands a lays.placed lays.takes
   lays_stand a b owner (ways.Push rec) v lays = own_stands a b lays
   lays_stand a b owner (ways.PushOverDead rec) v lays =
@@ -96,19 +114,19 @@ module _ {D : Type 0} (m : Meaning D) where
   lays_stand a b owner (ways.Replace rec) v lays = own_stands a b lays
 
   new_told : (a b : Pool D FireLinks) (owner : ℕ) (v : Version) (fault : SpaceFault) → FailsNew m a b owner v fault
-      → is_disks fault ≡ false → Stands m a b
+      → is_disks k fault ≡ false → Stands m k a b
   new_told a b owner v fault (no_place fails) quiet = own_told a b fault fails quiet
   new_told a b owner v fault (no_first at placed takes fails) quiet =
       own_told placed b fault fails quiet ∙ own_stands a placed takes
 
   over_told : (a b : Pool D FireLinks) (rec : RecId) (v : Version) (fault : SpaceFault)
-      → FailsOverDead m a b rec v fault → is_disks fault ≡ false → Stands m a b
+      → FailsOverDead m a b rec v fault → is_disks k fault ≡ false → Stands m k a b
   over_told a b rec v fault (not_cleared fails) quiet = own_told a b fault fails quiet
   over_told a b rec v fault (not_pushed cleared takes fails) quiet =
       own_told cleared b fault fails quiet ∙ own_stands a cleared takes
 
   pub lays_told : (a b : Pool D FireLinks) (owner : ℕ) (way : Way) (v : Version) (fault : SpaceFault)
-      → FailsLay m a b owner way v fault → is_disks fault ≡ false → Stands m a b
+      → FailsLay m a b owner way v fault → is_disks k fault ≡ false → Stands m k a b
   lays_told a b owner ways.Make v fault fails quiet = new_told a b owner v fault fails quiet
   lays_told a b owner (ways.Push rec) v fault fails quiet = own_told a b fault fails quiet
   lays_told a b owner (ways.PushOverDead rec) v fault fails quiet = over_told a b rec v fault fails quiet

@@ -13,42 +13,43 @@ use Rattle.mg_table_takings.specs.Takings.{FailsRows, FailsTablesFrom, FailsTabl
 use Rattle.mg_engine_changes.specs.FaultBackLaws.{change_told, changes_stand, given_up}
 use Rattle.mg_engine_changes.specs.FaultCoreLaws.{count, ended, refused}
 use Rattle.mg_engine_changes.specs.FaultPageLaws.{is_none, own_stands, own_told}
-use Rattle.mg_engine_changes.specs.Told.{Stands, TellsFaults}
+use Rattle.mg_faults.specs.Faults.{FaultCount}
+use Rattle.mg_engine_changes.specs.Told.{Stands, TellsRise}
 
-module _ {D : Type 0} (m : Meaning D) where
+module _ {D : Type 0} (m : Meaning D) (k : FaultCount) where
   -- ---- the changes of other tables
 
   others_stand : (old new : Core D) (t : ℕ) (start end : Undo) → TakesOthers m old new t start end
-      → Stands m old.store new.store
+      → Stands m k old.store new.store
   others_stand old new t start end takes =
-      changes_stand m t old new (others_of old.catalog.pointer.0 takes.given) takes.takes
+      changes_stand m k t old new (others_of old.catalog.pointer.0 takes.given) takes.takes
 
   others_told : (old new : Core D) (t : ℕ) (start : Undo) (refusal : Refusal)
-      → StopsOthers m old new t start refusal → TellsFaults m old new (Some refusal)
+      → StopsOthers m old new t start refusal → TellsRise m k old new (Some refusal)
   others_told old new t start refusal stops quiet =
-      change_told m stops.at new t stops.change refusal stops.fails quiet
-      ∙ changes_stand m t old stops.at (others_of old.catalog.pointer.0 stops.given) stops.takes
+      change_told m k stops.at new t stops.change refusal stops.fails quiet
+      ∙ changes_stand m k t old stops.at (others_of old.catalog.pointer.0 stops.given) stops.takes
 
   -- ---- the rows of the catalog
 
   row_stands_so : (old new : Core D) (t : ℕ) (key : Value) → TakesTheRow m old new t key
-      → Stands m old.store new.store
-  row_stands_so old new t key row = own_stands m old.store new.store row.takes
+      → Stands m k old.store new.store
+  row_stands_so old new t key row = own_stands m k old.store new.store row.takes
 
   row_told : (old new : Core D) (t : ℕ) (key : Value) (refusal : Refusal)
-      → FailsTheRow m old new t key refusal → TellsFaults m old new (Some refusal)
+      → FailsTheRow m old new t key refusal → TellsRise m k old new (Some refusal)
   row_told old new t key refusal fails quiet =
-      own_told m old.store new.store fails.fault fails.fails (is_none fails.fault refusal fails.is quiet)
+      own_told m k old.store new.store fails.fault fails.fails (is_none k fails.fault refusal fails.is quiet)
 
   -- one after another
   rows_stand : (t : ℕ) (keys : List Value) (old new : Core D) → TakesRows m t keys old new
-      → Stands m old.store new.store
+      → Stands m k old.store new.store
   rows_stand t keys old new (no_row core) = refl
   rows_stand t all old new (one_row key keys begun mid end takes more) =
       rows_stand t keys mid end more ∙ row_stands_so begun mid t key takes
 
   rows_told : (t : ℕ) (refusal : Refusal) (keys : List Value) (old new : Core D)
-      → FailsRows m t refusal keys old new → TellsFaults m old new (Some refusal)
+      → FailsRows m t refusal keys old new → TellsRise m k old new (Some refusal)
   rows_told t refusal all old new (row_stands key keys begun end fails) quiet =
       row_told begun end t key refusal fails quiet
   rows_told t refusal all old new (later_row key keys begun mid end takes more) quiet =
@@ -57,12 +58,12 @@ module _ {D : Type 0} (m : Meaning D) where
   -- ---- both
 
   both_stand : (old new : Core D) (t : ℕ) (start end : Undo) (keys : List Value)
-      → TakesBoth m old new t start end keys → Stands m old.store new.store
+      → TakesBoth m old new t start end keys → Stands m k old.store new.store
   both_stand old new t start end keys takes = rows_stand t keys takes.mid new takes.rows
       ∙ others_stand old takes.mid t start end takes.others
 
   both_told : (old new : Core D) (t : ℕ) (start : Undo) (keys : List Value) (refusal : Refusal)
-      → StopsBoth m old new t start keys refusal → TellsFaults m old new (Some refusal)
+      → StopsBoth m old new t start keys refusal → TellsRise m k old new (Some refusal)
   both_told old new t start keys refusal (stops_at_other stops) quiet =
       others_told old new t start refusal stops quiet
   both_told old new t start keys refusal (stops_at_rows mid end others fails) quiet =
@@ -71,26 +72,26 @@ module _ {D : Type 0} (m : Meaning D) where
   -- ---- to a point
 
   from_stands : (begun new : Core D) (t : ℕ) (start : Undo) → TakesTablesFrom m begun new t start
-      → Stands m begun.store new.store
-  from_stands begun new t start takes = ap (count m) takes.same
+      → Stands m k begun.store new.store
+  from_stands begun new t start takes = ap (count m k) takes.same
       ∙ both_stand (not_asking t begun) takes.taken t start takes.end takes.keys takes.takes
 
   from_told : (begun new : Core D) (t : ℕ) (start : Undo) (refusal : Refusal)
-      → FailsTablesFrom m begun new t start refusal → TellsFaults m begun new (Some refusal)
-  from_told begun new t start refusal (rows_unknown is gives) quiet = given_up m begun new t refusal gives
+      → FailsTablesFrom m begun new t start refusal → TellsRise m k begun new (Some refusal)
+  from_told begun new t start refusal (rows_unknown is gives) quiet = given_up m k begun new t refusal gives
   from_told begun new t start refusal (tables_stopped keys stopped rows stops gives) quiet =
-      given_up m stopped new t refusal gives
+      given_up m k stopped new t refusal gives
       ∙ both_told (not_asking t begun) stopped t start keys refusal stops quiet
 
   pub over_stands : (old new : Core D) (t : ℕ) (point : Point) → TakesTablesTo m old new t point
-      → Stands m old.store new.store
+      → Stands m k old.store new.store
   over_stands old new t point takes = from_stands takes.begun new t (going_to takes.undo point) takes.takes
-      ∙ ended m old takes.begun t takes.has_begun.ended
+      ∙ ended m k old takes.begun t takes.has_begun.ended
 
   pub over_told : (old new : Core D) (t : ℕ) (point : Point) (refusal : Refusal)
-      → FailsTablesTo m old new t point refusal → TellsFaults m old new (Some refusal)
-  over_told old new t point refusal (tables_not_begun is) quiet = refused m old new t refusal is
+      → FailsTablesTo m old new t point refusal → TellsRise m k old new (Some refusal)
+  over_told old new t point refusal (tables_not_begun is) quiet = refused m k old new t refusal is
   over_told old new t point refusal (tables_not_copied begun continues wait is gives) quiet =
-      given_up m begun new t refusal gives ∙ ended m old begun t wait
+      given_up m k begun new t refusal gives ∙ ended m k old begun t wait
   over_told old new t point refusal (tables_not_taken begun undo has reaches fails) quiet =
-      from_told begun new t (going_to undo point) refusal fails quiet ∙ ended m old begun t has.ended
+      from_told begun new t (going_to undo point) refusal fails quiet ∙ ended m k old begun t has.ended

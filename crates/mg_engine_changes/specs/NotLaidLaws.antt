@@ -199,7 +199,7 @@ module _ (retract : RetractTakesKeepBack) {D P : Type 0} (m : Meaning D) (places
 
   may : MayAnswer m places old new (Some refusal)
   may = fault_may m places old new from.before failed.fails.fault refusal online from.up
-      from.so.goes.time.never_falls failed.fails.is (subst (λ (g : Geometry). NamesLimit g.limit refusal)
+      (from.so.goes.time.never_falls, from.so.goes.time.failed_writes) failed.fails.is (subst (λ (g : Geometry). NamesLimit g.limit refusal)
       (left_geometry m from.before new.store failed.fails.fault from.left ∙ from.so.goes.geometry) failed.fails.names)
       from.told counts
 

@@ -455,7 +455,7 @@ module _ (retract : RetractTakesKeepBack) {D P : Type 0} (m : Meaning D) (known 
       short = (risen failed.fault old.damage new.damage old.shortages new.shortages counted.damage counted.shortages
           counts).1;
       may = fault_may m places old new from.before failed.fault refusal up from.come.up
-          from.come.so.goes.time.never_falls failed.is (subst (λ (g : Geometry). NamesLimit g.limit refusal)
+          (from.come.so.goes.time.never_falls, from.come.so.goes.time.failed_writes) failed.is (subst (λ (g : Geometry). NamesLimit g.limit refusal)
           (left_geometry m from.before new.store failed.fault from.left ∙ from.come.so.goes.geometry) failed.names)
           from.told counts;
       takes = unasked_back t.0 old.catalog.pointer.0 keys old.works;

@@ -158,7 +158,7 @@ module _ {D : Type 0} (m : Meaning D) where
   told_of before after (faults.Damaged it) told = told.1
   told_of before after (faults.Pool (pool_faults.Absent pages)) told = told.1
   told_of before after (faults.Pool (pool_faults.DiskRead n)) told = (told.1, told.2.2)
-  told_of before after (faults.Pool (pool_faults.DiskWrite n)) told = (told.1, told.2.2)
+  told_of before after (faults.Pool (pool_faults.DiskWrite n)) told = (told.1, told.2.2, told.3)
   told_of before after (faults.Pool (pool_faults.Offline n)) told = told.0
   told_of before after (faults.Pool pool_faults.Memory) told = told.1
 
@@ -177,6 +177,9 @@ module _ {D : Type 0} (m : Meaning D) where
     told.0,
     rose_later
         (m.faults before.disk) (m.faults ready.disk) (m.faults after.disk) keeps.disk.never_falls told.1,
+    rose_later
+        (m.failed_writes before.disk) (m.failed_writes ready.disk) (m.failed_writes after.disk)
+        keeps.disk.failed_writes told.2,
   )
   told_from before ready after (faults.Pool (pool_faults.Offline n)) keeps told = sym keeps.offline ∙ told
   told_from before ready after (faults.Pool pool_faults.Memory) keeps told = told
@@ -208,7 +211,8 @@ left_geometry m before after fault (inr fails) =
 
 pub fault_may : {D P : Type 0} (m : Meaning D) (places : Places P) (old new : Core D) (before : Pool D FireLinks)
     (fault : SpaceFault) (refusal : Refusal) → old.store.offline ≡ None → before.offline ≡ None
-    → m.faults old.store.disk ≤ m.faults before.disk → IsRefusal fault refusal
+    → (m.faults old.store.disk ≤ m.faults before.disk) × (m.failed_writes old.store.disk ≤ m.failed_writes before.disk)
+    → IsRefusal fault refusal
     → NamesLimit old.store.geometry.limit refusal → TellsOf m before new.store fault
     → CountsFault fault old.damage new.damage old.shortages new.shortages
     → MayAnswer m places old new (Some refusal)
@@ -235,13 +239,17 @@ fault_may m places old new before (faults.Pool (pool_faults.Absent pages)) refus
     })
 fault_may m places old new before (faults.Pool (pool_faults.DiskRead n)) refusal online up rises is names told counts =
     subst (λ (r : Refusal). MayAnswer m places old new (Some r)) (sym is) (record {
-      cause = rose_later (m.faults old.store.disk) (m.faults before.disk) (m.faults new.store.disk) rises told.1;
+      cause = rose_later (m.faults old.store.disk) (m.faults before.disk) (m.faults new.store.disk) rises.0 told.1;
       offline = rw online tt;
       down = told.0 ∙ sym online;
     })
 fault_may m places old new before (faults.Pool (pool_faults.DiskWrite n)) refusal online up rises is names told counts =
     subst (λ (r : Refusal). MayAnswer m places old new (Some r)) (sym is) (record {
-      cause = rose_later (m.faults old.store.disk) (m.faults before.disk) (m.faults new.store.disk) rises told.1;
+      cause = (
+        rose_later (m.faults old.store.disk) (m.faults before.disk) (m.faults new.store.disk) rises.0 told.1,
+        rose_later (m.failed_writes old.store.disk) (m.failed_writes before.disk) (m.failed_writes new.store.disk)
+            rises.1 told.2,
+      );
       offline = rw online tt;
       down = told.0;
     })

@@ -35,7 +35,7 @@ pub record FailsReady {D : Type 0} (m : Meaning D) (old new : Pool D FireLinks) 
   pub fails : FailsWrites m ready new (pool_faults.DiskWrite count)
   pub is : fault ≡ faults.Pool (pool_faults.DiskWrite count)
 
--- what a fault of a call tells of the store: whether a page write has failed, and that the disk's count of faults rose
+-- what a fault of a call tells of the store: whether a page write has failed, and that the disk's counts of faults rose
 abbrev pub TellsOf : {D : Type 0} → Meaning D → Pool D FireLinks → Pool D FireLinks → SpaceFault → Type 0
 TellsOf m before after (faults.Full limit) = after.offline ≡ None
 TellsOf m before after (faults.Damaged it) = after.offline ≡ None
@@ -44,5 +44,6 @@ TellsOf m before after (faults.Pool (pool_faults.DiskRead n)) =
     (after.offline ≡ None) × Rose (m.faults before.disk) (m.faults after.disk)
 TellsOf m before after (faults.Pool (pool_faults.DiskWrite n)) =
     (after.offline ≡ Some n) × Rose (m.faults before.disk) (m.faults after.disk)
+    × Rose (m.failed_writes before.disk) (m.failed_writes after.disk)
 TellsOf m before after (faults.Pool (pool_faults.Offline n)) = before.offline ≡ Some n
 TellsOf m before after (faults.Pool pool_faults.Memory) = after.offline ≡ None

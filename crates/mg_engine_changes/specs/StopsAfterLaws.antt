@@ -67,7 +67,7 @@ module _ {D : Type 0} (m : Meaning D) (old begun stopped : Core D) (t : TxNo) (p
       → CountsFault stops.stopping.fault old.damage now.damage old.shortages now.shortages
       → MayAnswer m places old now (Some refusal)
   may_answer places now online told counted = fault_may m places old now stops.at.store stops.stopping.fault refusal
-      online stops.taken.on.online stops.taken.on.goes.time.never_falls stops.stopping.is (subst (λ (g : Geometry). NamesLimit g.limit refusal)
+      online stops.taken.on.online (stops.taken.on.goes.time.never_falls, stops.taken.on.goes.time.failed_writes) stops.stopping.is (subst (λ (g : Geometry). NamesLimit g.limit refusal)
       (left_geometry m stops.at.store stopped.store stops.stopping.fault stops.stopping.left
       ∙ stops.taken.on.goes.geometry) stops.stopping.names) told counted
 

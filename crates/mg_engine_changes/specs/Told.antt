@@ -1,9 +1,10 @@
--- The disk's count of faults stands where a call of an engine tells no fault of it.
+-- The disk's counts of faults stand where a call of an engine tells no fault of it: the one of all of them, and the one of
+-- page writes that failed.
 use Rattle.std.specs.Prelude.{◌≡◌, ℕ, Bool, true, false, List, Option, Result, MatchResult}
 use Rattle.mg_base.specs.Disk.{Meaning}
 use Rattle.mg_base.specs.declared.numbers.PageNo.{PageNo}
 use Rattle.mg_base.specs.declared.numbers.TxNo.{TxNo}
-use Rattle.mg_faults.specs.Faults.{tells_fault}
+use Rattle.mg_faults.specs.Faults.{FaultCount, counts_reads, each_fault, failed_writes, tells_rise}
 use Rattle.mg_model.specs.declared.change.Point.{Point}
 use Rattle.mg_model.specs.declared.event.Mode.{Mode}
 use Rattle.mg_model.specs.declared.refusal.Refusal.{Refusal}
@@ -29,19 +30,28 @@ use Rattle.mg_taking_back.specs.Taking.{FailsBackTo, GoesBackTo, TakesBackTo}
 use Rattle.mg_table_making.specs.Creating.{CreatesTable, FailsCreation}
 use Rattle.mg_table_takings.specs.Takings.{FailsTablesTo, GoesBackOver, TakesTablesTo}
 
+-- one of the two counts
+abbrev pub disk_count : {D : Type 0} → Meaning D → FaultCount → D → ℕ
+disk_count m each_fault disk = m.faults disk
+disk_count m failed_writes disk = m.failed_writes disk
+
 -- it stands from one cache to another
-abbrev pub Stands : {D L : Type 0} → Meaning D → Pool D L → Pool D L → Type 0
-Stands m old new = m.faults new.disk ≡ m.faults old.disk
+abbrev pub Stands : {D L : Type 0} → Meaning D → FaultCount → Pool D L → Pool D L → Type 0
+Stands m k old new = disk_count m k new.disk ≡ disk_count m k old.disk
 
--- a fault of a call on the pages is one of the disk
-abbrev pub is_disks : SpaceFault → Bool
-is_disks (space.Pool (faults.DiskRead n)) = true
-is_disks (space.Pool (faults.DiskWrite n)) = true
-is_disks fault = false
+-- a fault of a call on the pages is one that is counted so
+abbrev pub is_disks : FaultCount → SpaceFault → Bool
+is_disks k (space.Pool (faults.DiskRead n)) = counts_reads k
+is_disks k (space.Pool (faults.DiskWrite n)) = true
+is_disks k fault = false
 
--- from one engine to another it stands, but for a refusal that tells a fault of the disk
+-- from one engine to another it stands, but for a refusal that tells of its rise
+abbrev pub TellsRise : {D : Type 0} → Meaning D → FaultCount → Core D → Core D → Option Refusal → Type 0
+TellsRise m k old new refusal = tells_rise k refusal ≡ false → Stands m k old.store new.store
+
+-- and so do both
 abbrev pub TellsFaults : {D : Type 0} → Meaning D → Core D → Core D → Option Refusal → Type 0
-TellsFaults m old new refusal = tells_fault refusal ≡ false → Stands m old.store new.store
+TellsFaults m old new refusal = (k : FaultCount) → TellsRise m k old new refusal
 
 -- ---- by what a call of an engine promises
 

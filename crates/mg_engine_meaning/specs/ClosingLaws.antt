@@ -302,11 +302,14 @@ refused_end : {D : Type 0} (m : Meaning D) (old : Core D) (new : Pool D FireLink
     → RefusesClose m old new.disk refusal
 refused_end {D} m old new refusal _ (offline count is same) answer = subst (RefusesClose m old new.disk) (sym answer)
     (is, ap (λ (s : Pool D FireLinks). s.disk) same)
-refused_end m old new refusal _ (unwritten count writing) answer = subst (RefusesClose m old new.disk) (sym answer)
-    (sym (still_online m writing.run.between old.store writing.mid writing.run.run) ∙ writing.run.online, writing.rose)
+refused_end m old new refusal _ (unwritten count writing) answer = subst (RefusesClose m old new.disk) (sym answer) (
+  sym (still_online m writing.run.between old.store writing.mid writing.run.run) ∙ writing.run.online,
+  writing.rose,
+  writing.failed_writes,
+)
 refused_end m old new refusal _ (unsettled count written run clean settles rose) answer =
     subst (RefusesClose m old new.disk) (sym answer)
-    (sym (still_online m run.between old.store written run.run) ∙ run.online, rose)
+    (sym (still_online m run.between old.store written run.run) ∙ run.online, rose.0, rose.1)
 
 module _ {D : Type 0} (m : Meaning D) (counts : CountsNow m) (holds_one : HoldsOne D m)
     (runs : RunsLast D FireLinks m packed_form) (leaves : PoolLeaves D FireLinks m packed_form)
@@ -337,6 +340,7 @@ module _ {D : Type 0} (m : Meaning D) (counts : CountsNow m) (holds_one : HoldsO
     ends.steady,
     λ o h stands. all_left m counts holds_one runs leaves begin old core_is o h stands
         (shows_of o h stands ends.online) new ends,
+    ends.none_failed,
   )
   its_end new (Ok x) (Err refusal) ends is = absurd is
   its_end new (Err fault) (Ok y) fails is = absurd is

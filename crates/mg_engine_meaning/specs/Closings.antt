@@ -1,6 +1,6 @@
 -- What an engine leaves that is closed.
 use Rattle.std.specs.Prelude.{◌≡◌, ℕ, true, List, [], None, Some, Result, Ok, Err}
-use Rattle.mg_base.specs.Disk.{Meaning, Rose}
+use Rattle.mg_base.specs.Disk.{FailsNoWrite, Meaning, Rose}
 use Rattle.mg_base.specs.Image.{Image, page_at}
 use Rattle.mg_core.specs.declared.parts.Core.{Core}
 use Rattle.mg_engine_meaning.specs.PlainTables.{EachIsPlain}
@@ -51,12 +51,14 @@ abbrev pub RefusesClose : {D : Type 0} → Meaning D → Core D → D → Refusa
 RefusesClose m old new (Offline count) = (old.store.offline ≡ Some count) × (new ≡ old.store.disk)
 RefusesClose m old new (DiskWrite count) =
     (old.store.offline ≡ None) × Rose (m.faults old.store.disk) (m.faults new)
+    × Rose (m.failed_writes old.store.disk) (m.failed_writes new)
 RefusesClose m old new refusal = ⊥
 
 -- an engine has left its disk, and no call of that has failed; or the closing is refused
 abbrev pub Ends : {D : Type 0} → Meaning D → Core D → D → Result (Unit {0}) Refusal → Type 0
 Ends m old new (Ok x) = (old.store.offline ≡ None) × (m.faults new ≡ m.faults old.store.disk)
     × ((o : Opening) (h : Entries) → StandsFor m old o h → LeavesAll m old new o h)
+    × FailsNoWrite m old.store.disk new
 Ends m old new (Err refusal) = RefusesClose m old new refusal
 
 -- An engine was closed, or not: the disk comes back, and each image that a crash since the start might have left holds

@@ -212,7 +212,7 @@ module _ {D P : Type 0} (m : Meaning D) (places : Places P) (begins : OpeningsBe
     leaves = record {
       keeps = keeps_of m places old (record old { waits = waits; store = store }) (Some (DiskWrite n)) goes.goes
           (omega arith) (omega arith)
-          (record { cause = told.2.2; offline = rw continues.0 tt; down = told.1 });
+          (record { cause = (told.2.2, told.3); offline = rw continues.0 tt; down = told.1 });
       tables_stay = tables_of m places old (record old { waits = waits; store = store }) (Some t.0)
           (λ u name not_. refl);
       walks_stay = walks_left;

@@ -271,7 +271,7 @@ module _ {D P : Type 0} (m : Meaning D) (places : Places P) (idle_goes : IdleGoe
         refl,
         (let same_ = counted.0 in omega (arith, same_)),
         (let same_ = counted.1 in omega (arith, same_)),
-        record { cause = told.2.2; offline = rw online tt; down = told.1 },
+        record { cause = (told.2.2, told.3); offline = rw online tt; down = told.1 },
       ))
   fault_gives counts (space.Pool (faults.Offline n)) refusal is names left told counted =
       let both : None ≡ Some n = sym online ∙ told.0 in absurd cc

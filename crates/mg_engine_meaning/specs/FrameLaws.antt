@@ -46,6 +46,7 @@ store_stands m store = record {
     tells = refl;
     most_writes = refl;
     never_falls = omega arith;
+    failed_writes = omega arith;
     later = λ told. omega arith;
     keeps = λ told t c early left. left;
   };
@@ -58,7 +59,7 @@ module _ {D P : Type 0} (m : Meaning D) (places : Places P) (old new : Core D) w
       → old.damage ≤ new.damage → old.shortages ≤ new.shortages
       → MayAnswer m places old new refusal → Keeps (means m places) old new refusal
   keeps_of refusal goes damaged short may = record {
-    faults = goes.time.never_falls;
+    faults = (goes.time.never_falls, goes.time.failed_writes);
     damage = damaged;
     shortages = short;
     cause = may.cause;

@@ -107,6 +107,7 @@ means m places = record {
   holds = λ core o h least image.
       HoldsFrom packed_form core.store.dirty.size o (asked h) least image;
   faults = λ core. m.faults core.store.disk;
+  failed_writes = λ core. m.failed_writes core.store.disk;
   damage = λ core. core.damage;
   shortages = λ core. core.shortages;
   page_limit = λ core. core.store.geometry.limit;

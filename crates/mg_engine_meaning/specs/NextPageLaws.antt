@@ -74,7 +74,7 @@ module _ {D P : Type 0} (m : Meaning D) (places : Places P) (holds : HoldsOne D 
         reads = fail_reads m places failing old new.store count fails.told.0 fails.told.1 fails.fails None
             (keeps_of m places old (record old { store = new.store }) (Some (DiskWrite count))
             (fails_goes m old.store new.store (faults.DiskWrite count) fails.fails) (omega arith) (omega arith)
-            (record { cause = fails.told.2.2; offline = rw fails.told.0 tt; down = fails.told.1 }));
+            (record { cause = (fails.told.2.2, fails.told.3); offline = rw fails.told.0 tt; down = fails.told.1 }));
         crash = fail_quiet m places failing old new.store count fails.told.0 fails.told.1 fails.fails;
         sessions = sessions_of m places old (record old { store = new.store }) 0 (works_same old.works 0);
       })

@@ -152,6 +152,7 @@ module _ {D : Type 0} (m : Meaning D) (counts : CountsNow m) (stands_first : Sta
       free = λ session. ap (λ (works : List Working). has_session works session) opens.idle.works;
       online = opens.idle.online;
       steady = opens.steady ∙ opens.prepared.steady;
+      none_failed = opens.none_failed ∙ opens.prepared.none_failed;
       undamaged = opens.idle.damage;
       same = ready_same m disk opens.before core.store opens.prepared.same opens.prepared.pool opens.keeps;
       size_is = opens.idle.core_is.pool.size;

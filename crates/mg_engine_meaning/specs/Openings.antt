@@ -1,7 +1,7 @@
 -- What a disk holds that may be opened, and what an engine is over it.
 use Rattle.std.specs.Prelude.{◌≡◌, ◌≢◌, ◌⊎◌, ◌+◌, ◌≤◌, ℕ, false, List, [], length, None, Some, Result, Ok, Err}
 use Rattle.mg_base.specs.Asking.{AsksReads}
-use Rattle.mg_base.specs.Disk.{MayLeave, Meaning}
+use Rattle.mg_base.specs.Disk.{FailsNoWrite, MayLeave, Meaning}
 use Rattle.mg_base.specs.Image.{Image, blank, page_at}
 use Rattle.mg_base.specs.Moments.{LeavesOnly}
 use Rattle.mg_core.specs.Cores.{IsCore}
@@ -76,6 +76,7 @@ pub record IsOpenedOver {D : Type 0} (m : Meaning D) (disk : D) (limit : ℕ) (c
   pub online : core.store.offline ≡ None
   -- nor any other call of the disk
   pub steady : m.faults core.store.disk ≡ m.faults disk
+  pub none_failed : FailsNoWrite m disk core.store.disk
   -- no damage was counted yet
   pub undamaged : core.damage ≡ 0
   pub same : IsSameDisk m disk core.store.disk

@@ -42,6 +42,7 @@ reads_go m old new keeps = record {
     tells = keeps.disk.tells;
     most_writes = keeps.disk.most_writes;
     never_falls = keeps.disk.never_falls;
+    failed_writes = keeps.disk.failed_writes;
     later = λ told. (keeps.disk.time told).later;
     keeps = λ told. (keeps.disk.time told).keeps;
   };

@@ -57,6 +57,7 @@ module _ {D L : Type 0} (m : Meaning D) where
                 tells = refl;
                 most_writes = refl;
                 never_falls = omega arith;
+                failed_writes = omega arith;
                 later = λ told. omega arith;
                 keeps = λ told t c early left. left;
               });
@@ -77,6 +78,7 @@ module _ {D L : Type 0} (m : Meaning D) where
         tells = keeps.tells;
         most_writes = keeps.most_writes;
         never_falls = keeps.never_falls;
+        failed_writes = keeps.failed_writes;
         later = λ told. (keeps.time told).later;
         keeps = λ told t c early left. (keeps.time told).keeps t c early left;
       };

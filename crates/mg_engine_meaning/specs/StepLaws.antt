@@ -95,6 +95,7 @@ time_then m a b c first next = record {
   tells = next.tells ∙ first.tells;
   most_writes = next.most_writes ∙ first.most_writes;
   never_falls = let one = first.never_falls in let two = next.never_falls in omega (arith, one, two);
+  failed_writes = let one = first.failed_writes in let two = next.failed_writes in omega (arith, one, two);
   later = λ told. let one = first.later told in let two = next.later (first.tells ∙ told) in omega (arith, one, two);
   keeps = λ told t image early left. let one = first.later told in
       next.keeps (first.tells ∙ told) t image (omega (arith, early, one)) (first.keeps told t image early left);
@@ -458,7 +459,7 @@ module _ {D P : Type 0} (m : Meaning D) (places : Places P) (holds : HoldsOne D 
           reads = fail_reads m places failing old new.store count fails.told.0 fails.told.1 fails.fails None
               (keeps_of m places old (record old { store = new.store }) (Some (DiskWrite count))
               (fails_goes m old.store new.store (faults.DiskWrite count) fails.fails) (omega arith) (omega arith)
-              (record { cause = fails.told.2.2; offline = rw fails.told.0 tt; down = fails.told.1 }));
+              (record { cause = (fails.told.2.2, fails.told.3); offline = rw fails.told.0 tt; down = fails.told.1 }));
           crash = fail_quiet m places failing old new.store count fails.told.0 fails.told.1 fails.fails;
           sessions = sessions_of m places old (record old { store = new.store }) t (works_same old.works t);
         },

@@ -1,17 +1,17 @@
 -- Frames of calls that are not made, and of answers that have no cause outside.
 use Rattle.std.proofs.Common.{◌≡◌, ℕ, false, Option, inl, refl, arith}
 use Rattle.mg_model.specs.declared.refusal.Refusal.{Refusal}
-use Rattle.mg_faults.specs.Faults.{tells_fault}
+use Rattle.mg_faults.specs.Faults.{FaultCount, tells_rise}
 use Rattle.mg_records.specs.Meaning.{Means}
 use Rattle.mg_calls.specs.Frames.{Blames, Frames}
 
 -- a refusal that has no cause outside may be answered in place of another, but of a fault of the disk
 pub frames_quiet : {R P : Type 0} {first : Option Refusal} (m : Means R P) (old new : R) (t : ℕ)
     (refusal : Option Refusal) → Blames m old new refusal → Frames m old new t first
-    → (tells_fault refusal ≡ false → tells_fault first ≡ false) → Frames m old new t refusal
+    → ((k : FaultCount) → tells_rise k refusal ≡ false → tells_rise k first ≡ false) → Frames m old new t refusal
 frames_quiet m old new t refusal cause frames quiet = record {
   faults = frames.faults;
-  steady = λ told. frames.steady (quiet told);
+  steady = λ k told. frames.steady k (quiet k told);
   damage = frames.damage;
   shortages = frames.shortages;
   cause = cause;
@@ -32,8 +32,8 @@ frames_quiet m old new t refusal cause frames quiet = record {
 pub frames_none : {R P : Type 0} (m : Means R P) (r : R) (t : ℕ) (refusal : Option Refusal)
     → Blames m r r refusal → Frames m r r t refusal
 frames_none m r t refusal cause = record {
-  faults = omega arith;
-  steady = λ quiet. refl;
+  faults = (omega arith, omega arith);
+  steady = λ k quiet. refl;
   damage = omega arith;
   shortages = omega arith;
   cause = cause;

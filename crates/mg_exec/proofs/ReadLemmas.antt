@@ -355,7 +355,7 @@ keeps_leaves m old new t before row phases.Ended (Err Arithmetic) frames calm re
     record { frames = frames; ready = tt; calm = calm }
 keeps_leaves m old new t before row phases.Ended (Err (Engine refusals.Memory)) frames calm ready may keeps =
     record {
-      frames = frames_quiet m old new t (Some refusals.Memory) tt frames (λ quiet. refl);
+      frames = frames_quiet m old new t (Some refusals.Memory) tt frames (λ k quiet. refl);
       ready = tt;
       calm = calm;
     }

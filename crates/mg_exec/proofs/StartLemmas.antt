@@ -213,10 +213,10 @@ plan_frames m old new t plans.CountMismatch frames = frames
 plan_frames m old new t plans.KeyChange frames = frames
 plan_frames m old new t plans.TypeMismatch frames = frames
 plan_frames m old new t (plans.RowTooLong len limit) frames =
-    frames_quiet m old new t (Some (refusals.RowTooLong len limit)) tt frames (λ quiet. refl)
+    frames_quiet m old new t (Some (refusals.RowTooLong len limit)) tt frames (λ k quiet. refl)
 plan_frames m old new t (plans.KeyTooLong len limit) frames = frames
 plan_frames m old new t plans.Memory frames =
-    frames_quiet m old new t (Some refusals.Memory) tt frames (λ quiet. refl)
+    frames_quiet m old new t (Some refusals.Memory) tt frames (λ k quiet. refl)
 
 pub unbound_frames : {R P : Type 0} (m : Means R P) (old new : R) (t : ℕ) (fault : PlanFault)
     (given : StatementFault) → given ≡ of_plan fault → Reads m old new None None → FaultsAreTold m old new None

@@ -134,14 +134,14 @@ phase_frames {P = P} m old new t s name size refusal result is reads told plans_
     frames : Frames m old new t None
     frames = frames_quiet m old new t None tt
         (subst (λ (refusal : Refusal). Frames m old new t (Some refusal)) (missing refusal is)
-        (frames_reads_nothing m old new t (Some refusal) reads told)) (λ quiet. refl)
+        (frames_reads_nothing m old new t (Some refusal) reads told)) (λ k quiet. refl)
 
     by : (result : Result (Phase P) StatementFault) → PlansPhase s name size result
         → Frames m old new t (refusal_at result)
     by (Ok phase) planned = frames
     by (Err fault) (inl none) =
         subst (λ (f : StatementFault). Frames m old new t (refusal_at {T = Phase P} (Err f))) (sym none)
-        (frames_quiet m old new t (Some refusals.Memory) tt frames (λ quiet. refl))
+        (frames_quiet m old new t (Some refusals.Memory) tt frames (λ k quiet. refl))
     by (Err fault) (inr refused) =
         subst (λ (f : StatementFault). Frames m old new t (refusal_at {T = Phase P} (Err f))) (sym refused.2)
         (plan_frames {P = P} m old new t refused.0 frames)

@@ -31,23 +31,27 @@ pub tells_after : {D L T : Type 0} (m : Meaning D) (a b c : Pool D L) (result : 
     → TellsFault m a c result
 tells_after m a b c (Ok x) stays same tells = (stays.0, tells.1, tells.2 ∙ stays.2)
 tells_after m a b c (Err (DiskRead n)) stays same tells =
-    (stays.0, tells.1, counted m a b c n stays same tells.2)
+    (stays.0, tells.1, counted m a b c n stays same tells.2, tells.3 ∙ ap (λ (c : ℕ × ℕ × ℕ). c.2) stays.2)
   where
     counted : {D L : Type 0} (m : Meaning D) (a b c : Pool D L) (n : ℕ) → StaysOnline m a b
         → m.faults b.disk ≡ m.faults a.disk → Counts m b c n → Counts m a c n
     counted m a b c n stays same counts = (
       counts.0,
-      counts.1 ∙ ap (λ (both : ℕ × ℕ). min (both.0 + 1) (2 ^ 64 - 1)) stays.2,
+      counts.1 ∙ ap (λ (c : ℕ × ℕ × ℕ). min (c.0 + 1) (2 ^ 64 - 1)) stays.2,
       subst (λ (x : ℕ). Rose x (m.faults c.disk)) same counts.2,
     )
-tells_after m a b c (Err (DiskWrite n)) stays same tells =
-    (stays.0, tells.1, counted m a b c n stays same tells.2)
+tells_after m a b c (Err (DiskWrite n)) stays same tells = (
+  stays.0,
+  tells.1,
+  counted m a b c n stays same tells.2,
+  subst (λ (x : ℕ). Rose x (m.failed_writes c.disk)) (ap (λ (c : ℕ × ℕ × ℕ). c.2) stays.2) tells.3,
+)
   where
     counted : {D L : Type 0} (m : Meaning D) (a b c : Pool D L) (n : ℕ) → StaysOnline m a b
         → m.faults b.disk ≡ m.faults a.disk → Counts m b c n → Counts m a c n
     counted m a b c n stays same counts = (
       counts.0,
-      counts.1 ∙ ap (λ (both : ℕ × ℕ). min (both.0 + 1) (2 ^ 64 - 1)) stays.2,
+      counts.1 ∙ ap (λ (c : ℕ × ℕ × ℕ). min (c.0 + 1) (2 ^ 64 - 1)) stays.2,
       subst (λ (x : ℕ). Rose x (m.faults c.disk)) same counts.2,
     )
 tells_after m a b c (Err (Offline n)) stays same tells =

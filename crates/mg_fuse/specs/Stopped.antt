@@ -22,8 +22,8 @@ blown_of d = d.blown
 abbrev pub most_asked : {D : Type 0} → Meaning D → ℕ → Stopped D → ℕ
 most_asked m counts_to d = min (m.asked d.inner + (d.most - d.passed)) counts_to
 
--- It tells what the disk behind it tells, and counts page reads as that does. Its faults are those of both. It counts the
--- page writes that it was asked for. How many pass in all is told as the disk behind it counts them, up to the end of its
+-- It tells what the disk behind it tells, and counts page reads as that does. Its faults are those of both, and so its
+-- failed page writes. It counts the page writes that it was asked for. How many pass in all is told as the disk behind it counts them, up to the end of its
 -- count: that number stays whatever is called.
 abbrev pub stopped_meaning : {D : Type 0} → Meaning D → ℕ → Meaning (Stopped D)
 stopped_meaning m counts_to = record {
@@ -34,6 +34,7 @@ stopped_meaning m counts_to = record {
   moment = λ d. m.moment d.inner;
   left = λ d t c. m.left d.inner t c;
   faults = λ d. m.faults d.inner + d.blown;
+  failed_writes = λ d. m.failed_writes d.inner + d.blown;
   asked = λ d. d.passed + d.blown;
   reads = λ d. m.reads d.inner;
   was_read = λ d n. m.was_read d.inner n;

@@ -1,7 +1,7 @@
 //! Disks of which it is known how a page write is counted.
 
 ghost use Rattle.std.specs.Prelude.{◌≡◌, ◌-◌, ◌^◌, ℕ, length, Some};
-ghost use Rattle.mg_base.specs.Disk.{Writes};
+ghost use Rattle.mg_base.specs.Disk.{CountsFailedWrite, Writes};
 ghost use Rattle.mg_fuse.specs.Counting.{CountsUpTo};
 
 use mg_base::{Disk, DiskFault, FaultyDisk, MemDisk, PageNo};
@@ -16,6 +16,7 @@ pub trait CountsWrites: GrowingDisk {
     fn write_counted(&mut self, page: PageNo, bytes: &[u8]) -> Result<(), DiskFault>
         requires whole { Self.meaning.size self.old ≡ Some (length bytes.now) }
         ensures writes { Writes Self.meaning self.old self.new page.0 bytes.now result }
+        ensures failed_writes { CountsFailedWrite Self.meaning self.old self.new result }
         ensures counts { CountsUpTo counts_to (Self.meaning.asked self.old) (Self.meaning.asked self.new) };
 }
 

@@ -43,7 +43,7 @@ impl<D> Stopped<D> {
 
 impl<D: CountsWrites> Disk for Stopped<D> {
     ghost use Rattle.std.specs.Prelude.{◌≡◌, ◌<◌, Some, length, IsErr};
-    ghost use Rattle.mg_base.specs.Disk.{Writes};
+    ghost use Rattle.mg_base.specs.Disk.{CountsFailedWrite, Writes};
     ghost use Rattle.mg_fuse.specs.Stopped.{stopped_meaning, inner_of, most_of, passed_of, Blows, Passes};
 
     ghost meaning = { stopped_meaning D.meaning D.counts_to };
@@ -70,6 +70,7 @@ impl<D: CountsWrites> Disk for Stopped<D> {
     fn write(&mut self, page: PageNo, bytes: &[u8]) -> Result<(), DiskFault>
         requires whole { D.meaning.size (inner_of self.old) ≡ Some (length bytes.now) }
         ensures writes { Writes (stopped_meaning D.meaning D.counts_to) self.old self.new page.0 bytes.now result }
+        ensures failed_writes { CountsFailedWrite (stopped_meaning D.meaning D.counts_to) self.old self.new result }
         ensures passes { passed_of self.old < most_of self.old → Passes self.old self.new }
         ensures blows { passed_of self.old ≡ most_of self.old → IsErr result × Blows self.old self.new }
     {

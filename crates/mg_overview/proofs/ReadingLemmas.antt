@@ -4,7 +4,7 @@ use Rattle.std.specs.Prelude.{min, nat_lt, take, unwrap_or}
 use Rattle.std.proofs.lemmas.Bool.{lt-ltb}
 use Rattle.std.proofs.lemmas.List.{length-replicate, take_min, take_more}
 use Rattle.mg_base.specs.Asking.{no_reads, one_read}
-use Rattle.mg_base.specs.Disk.{MayLeave, Meaning, ReadsPage, Stays}
+use Rattle.mg_base.specs.Disk.{FailsNoWrite, MayLeave, Meaning, ReadsPage, Stays}
 use Rattle.mg_base.specs.Image.{Image, blank, page_at}
 use Rattle.mg_base.specs.declared.geometry.TheConstants.{GREATEST_LIMIT}
 use Rattle.mg_pool.specs.Pool.{KeepsContent}
@@ -78,6 +78,7 @@ module _ {D : Type 0} (m : Meaning D) where
     told = still_told m disk;
     content = same_content m disk;
     steady = refl;
+    none_failed = refl;
     reads = no_reads m disk (λ k. nat_lt k count);
     len = refl;
     long = λ n. length-replicate {A = ℕ} size 0;
@@ -87,16 +88,17 @@ module _ {D : Type 0} (m : Meaning D) where
   -- the next page
   pub read_more : CountsNow m → Counted m → (old now new : D) (size count n : ℕ) (pages : Image)
       → HasReadBelow m old now size count n pages → n < count → KeepsTold m now new
-      → KeepsContent m now new → m.faults new ≡ m.faults now → ReadsPage m now new n
+      → KeepsContent m now new → m.faults new ≡ m.faults now → FailsNoWrite m now new → ReadsPage m now new n
       → (page : List ℕ) → length page ≡ size
       → ((image : Image) → m.held now ≡ Some image → page ≡ page_at size image n)
       → HasReadBelow m old new size count (n + 1) (pages ++ page ∷ [])
-  read_more counts counted old now new size count n pages before below told content steady reads page
+  read_more counts counted old now new size count n pages before below told content steady none reads page
       long is = record {
         has = has_still m now new size count before.has told;
         told = told_on m old now new before.told told;
         content = content_on m counts old now new before.content content;
         steady = steady ∙ before.steady;
+        none_failed = none ∙ before.none_failed;
         reads = one_read m old now new n n (λ k. nat_lt k count) before.reads reads (lt-ltb n count below);
         len = grind (arith, length-append, before.len);
         long = long_push size pages page before.long long;

@@ -1,7 +1,7 @@
 -- What the reading of a whole disk says.
 use Rattle.std.specs.Prelude.{◌≡◌, ◌≤◌, ℕ, true, nat_lt, length, take, min, Some, Result, Ok, Err, unwrap_or}
 use Rattle.mg_base.specs.Asking.{AsksReads}
-use Rattle.mg_base.specs.Disk.{Meaning, Rose, Stays}
+use Rattle.mg_base.specs.Disk.{FailsNoWrite, Meaning, Rose, Stays}
 use Rattle.mg_base.specs.Geometry.{is_page_size}
 use Rattle.mg_base.specs.Image.{Image, page_at}
 use Rattle.mg_base.specs.declared.geometry.TheConstants.{GREATEST_LIMIT}
@@ -47,6 +47,7 @@ pub record HasReadBelow {D : Type 0} (m : Meaning D) (old now : D) (size count n
   pub told : KeepsTold m old now
   pub content : KeepsContent m old now
   pub steady : m.faults now ≡ m.faults old
+  pub none_failed : FailsNoWrite m old now
   pub reads : AsksReads m old now n (λ k. nat_lt k count)
   pub len : length pages ≡ n
   pub long : AreLong size pages

@@ -2,7 +2,7 @@
 
 ghost use Rattle.std.specs.Prelude.{◌≡◌, ◌≤◌, ◌<◌, IfOk, Some, length, nat_lt, take, unwrap_or};
 ghost use Rattle.mg_base.specs.Asking.{AsksReads};
-ghost use Rattle.mg_base.specs.Disk.{ReadsPage};
+ghost use Rattle.mg_base.specs.Disk.{FailsNoWrite, ReadsPage};
 ghost use Rattle.mg_base.specs.Image.{Image, page_at};
 ghost use Rattle.mg_base.specs.declared.geometry.TheConstants.{GREATEST_LIMIT as MOST_PAGES};
 ghost use Rattle.mg_pool.specs.Pool.{KeepsContent};
@@ -34,13 +34,14 @@ pub enum ReadFault {
 ///
 /// # Errors
 ///
-/// `Disk` exactly where the disk's count of faults rose; `Memory`.
+/// `Disk` exactly where the disk's count of faults rose; `Memory`. No page write is asked for, so none fails.
 pub fn read_image<D: Disk>(alloc: Global, disk: &mut D) -> Result<WholeImage, ReadFault>
     ensures content { KeepsContent D.meaning disk.old disk.new }
     ensures reads { AsksReads D.meaning disk.old disk.new MOST_PAGES (λ n. nat_lt n MOST_PAGES) }
     ensures once { IfOk result (λ it. AsksReads D.meaning disk.old disk.new (length it.pages.items)
         (λ n. nat_lt n (length it.pages.items))) }
     ensures fault { TellsReadFault D.meaning disk.old disk.new result }
+    ensures no_failed_write { FailsNoWrite D.meaning disk.old disk.new }
     ensures read { IfOk result (IsRead D.meaning disk.new) }
     ensures image { (image : Image) → D.meaning.held disk.old ≡ Some image
         → IfOk result (λ it. it.pages.items ≡ take MOST_PAGES image) }
@@ -77,6 +78,7 @@ fn read_pages<D: Disk>(
     ensures content { KeepsContent D.meaning disk.old disk.new }
     ensures reads { AsksReads D.meaning disk.old disk.new count (λ n. nat_lt n count) }
     ensures fault { TellsReadFault D.meaning disk.old disk.new result }
+    ensures no_failed_write { FailsNoWrite D.meaning disk.old disk.new }
     ensures count { IfOk result (λ pages. length pages.items ≡ count) }
     ensures long { IfOk result (λ pages. AreLong size pages.items) }
     ensures image { (image : Image) → D.meaning.held disk.old ≡ Some image
@@ -109,6 +111,7 @@ fn read_page<D: Disk>(alloc: Global, disk: &mut D, size: u32, n: u32) -> Result<
     ensures content { KeepsContent D.meaning disk.old disk.new }
     ensures reads { ReadsPage D.meaning disk.old disk.new n }
     ensures fault { TellsReadFault D.meaning disk.old disk.new result }
+    ensures no_failed_write { FailsNoWrite D.meaning disk.old disk.new }
     ensures long { IfOk result (λ page. length page ≡ size) }
     ensures page { (image : Image) → D.meaning.held disk.old ≡ Some image
         → IfOk result (λ page. page ≡ page_at size image n) }

@@ -69,7 +69,7 @@ none_down (Some refusal) inner = refl
 pub keeps_plain : (old new : Plain) (refusal : Option Refusal) → is_inner refusal ≡ true
     → Keeps means old new refusal
 keeps_plain old new refusal inner = record {
-  faults = lit≤ tt;
+  faults = (lit≤ tt, lit≤ tt);
   damage = lit≤ tt;
   shortages = lit≤ tt;
   cause = cause_inner old new refusal inner;

@@ -71,6 +71,7 @@ means = record {
   left = λ p t image. ⊥;
   holds = λ p o h least image. ⊥;
   faults = λ p. 0;
+  failed_writes = λ p. 0;
   damage = λ p. 0;
   shortages = λ p. 0;
   page_limit = λ p. 0;

@@ -2,7 +2,7 @@
 use Rattle.std.proofs.Common.{◌≡◌, ◌≢◌, ◌<◌, ◌≤◌, ◌+◌, ℕ, Bool, true, false, not, ◌||◌, ◌&&◌, ◌==◌, inl, inr, List, [], ◌∷◌, length, take, drop, get_or, Option, Some, None, is_some, sym, ◌∙◌, ap, refl, cond, arith, unwrap_or, subst}
 use Rattle.std.proofs.lemmas.Bool.{cases_eq, eq-eqb, ne_eqb, both_ways, and_parts, and_from, or_cases, or_left, or_right}
 use Rattle.mg_base.specs.Image.{Image, page_at}
-use Rattle.mg_base.specs.Disk.{Meaning}
+use Rattle.mg_base.specs.Disk.{FailsNoWrite, Meaning}
 use Rattle.mg_careful.specs.declared.graph.Order.{Order}
 use Rattle.mg_careful.specs.Precedence.{Precedes, directly}
 use Rattle.mg_careful.specs.PrecedenceLaws.{precedes_in}
@@ -253,6 +253,8 @@ change_online m old new pages orders changes online = (
   let counted : new.faults ≡ old.faults = changes.enters.faults ∙ (changes.puts.faults ∙ changes.written.faults) in
       let told : m.faults new.disk ≡ m.faults old.disk =
       ap m.faults (changes.enters.disk ∙ changes.puts.disk) ∙ changes.written.steady in
+      let none : FailsNoWrite m old.disk new.disk =
+      ap m.failed_writes (changes.enters.disk ∙ changes.puts.disk) ∙ changes.written.none_failed in
       cc,
 )
 

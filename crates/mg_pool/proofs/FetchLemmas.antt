@@ -3,7 +3,7 @@ use Rattle.std.proofs.Common.{◌≡◌, ◌≢◌, ◌≤◌, ℕ, ◌+◌, ◌
 use Rattle.std.specs.Prelude.{Result, Ok, Err, OnOk, IsErrAnd, IsSome, min, ◌^◌}
 use Rattle.std.specs.Option.{option_copied}
 use Rattle.std.proofs.lemmas.Bool.{cases_eq}
-use Rattle.mg_base.specs.Disk.{Calm, Elapses, KeepsReads, Meaning, ReadsPage, Rose}
+use Rattle.mg_base.specs.Disk.{Calm, Elapses, FailsNoWrite, KeepsReads, Meaning, ReadsPage, Rose}
 use Rattle.mg_pool.specs.declared.fault.PoolFault.{PoolFault}
 use Rattle.mg_pool.specs.declared.fault.PoolFault.TheVariants.{DiskRead, DiskWrite, Offline, Absent, Memory}
 use Rattle.mg_pool.specs.declared.pool.Pool.{Pool}
@@ -32,6 +32,7 @@ quiet_none m disk = record {
     tells = refl;
     most_writes = refl;
     never_falls = omega arith;
+    failed_writes = omega arith;
     crash = λ told image may. may;
     time = λ told. record {
       later = omega arith;
@@ -45,14 +46,16 @@ quiet_none m disk = record {
   within = λ most has. has;
 }
 
-pub quiet_call : {D T E : Type 0} (m : Meaning D) (old new : D) (result : Result T E) → Calm m old new result → Quiet m old new
-quiet_call m old new result calm = record {
+pub quiet_call : {D T E : Type 0} (m : Meaning D) (old new : D) (result : Result T E) → Calm m old new result → FailsNoWrite m old new
+    → Quiet m old new
+quiet_call m old new result calm none = record {
   size = λ n is. size_stays m old new result n is calm.keeps;
   content = record {
     held = calm.held;
     tells = calm.keeps.tells;
     most_writes = calm.keeps.most_writes;
     never_falls = calm.keeps.never_falls;
+    failed_writes = omega (arith, none);
     crash = calm.crash;
     time = calm.keeps.time;
     asked = calm.asked;
@@ -89,6 +92,7 @@ quiet_then m counts a b c first second =
         tells = two.tells ∙ one.tells;
         most_writes = two.most_writes ∙ one.most_writes;
         never_falls = let f = one.never_falls in let s = two.never_falls in omega arith;
+        failed_writes = let f = one.failed_writes in let s = two.failed_writes in omega arith;
         crash = λ told image may. one.crash told image (two.crash (one.tells ∙ told) image may);
         time = λ told. elapses_then m counts a b c told one two;
         asked = two.asked ∙ one.asked;
@@ -280,14 +284,25 @@ rose_then a b c le (inr full) = inr full
 
 -- the disk failed at a reading call
 pub tells_read : {D L : Type 0} (T : Type 0) (m : Meaning D) (old : Pool D L) (disk : D) (new : Pool D L) (e : PoolFault) → new ≡ record old { disk = disk; faults = new.faults } → new.faults ≡ min (old.faults + 1) (2 ^ 64 - 1) → e ≡ DiskRead new.faults → old.offline ≡ None
-    → Rose (m.faults old.disk) (m.faults disk) → TellsFault {T = T} m old new (Err e)
-tells_read {D} {L} T m old disk new e is count told online rose =
-    subst (λ (f : PoolFault). TellsFault {T = T} m old new (Err f)) (sym told)
-    (online, ap (λ (p : Pool D L). p.offline) is ∙ online, (refl, count, subst (λ (p : Pool D L). Rose (m.faults old.disk) (m.faults p.disk)) (sym is) rose))
+    → Rose (m.faults old.disk) (m.faults disk) → FailsNoWrite m old.disk disk → TellsFault {T = T} m old new (Err e)
+tells_read {D} {L} T m old disk new e is count told online rose none =
+    subst (λ (f : PoolFault). TellsFault {T = T} m old new (Err f)) (sym told) (
+      online,
+      ap (λ (p : Pool D L). p.offline) is ∙ online,
+      (refl, count, subst (λ (p : Pool D L). Rose (m.faults old.disk) (m.faults p.disk)) (sym is) rose),
+      subst (λ (p : Pool D L). FailsNoWrite m old.disk p.disk) (sym is) none,
+    )
+
+all_same : (a b c d e : ℕ) → b ≡ d → c ≡ e → ◌≡◌ {A = ℕ × ℕ × ℕ} (a, b, c) (a, d, e)
+all_same a b c d e first second =
+    subst (λ (x : ℕ). ◌≡◌ {A = ℕ × ℕ × ℕ} (a, b, c) (a, x, e)) first
+    (subst (λ (y : ℕ). ◌≡◌ {A = ℕ × ℕ × ℕ} (a, b, c) (a, b, y)) second refl)
 
 -- no call of the disk failed
-pub stays_online : {D L : Type 0} (m : Meaning D) (old : Pool D L) (disk : D) → old.offline ≡ None → m.faults disk ≡ m.faults old.disk → StaysOnline m old (record old { disk = disk })
-stays_online m old disk online steady = (online, online, ap (λ (n : ℕ). (old.faults, n)) steady)
+pub stays_online : {D L : Type 0} (m : Meaning D) (old : Pool D L) (disk : D) → old.offline ≡ None → m.faults disk ≡ m.faults old.disk → FailsNoWrite m old.disk disk
+    → StaysOnline m old (record old { disk = disk })
+stays_online m old disk online steady none =
+    (online, online, all_same old.faults (m.faults disk) (m.failed_writes disk) (m.faults old.disk) (m.failed_writes old.disk) steady none)
 
 -- the call was refused
 pub refused : {D L T : Type 0} (m : Meaning D) (pool : Pool D L) (r : Result T PoolFault) (e : PoolFault) → IsErrAnd r (λ y. y ≡ e) → TellsFault {T = T} m pool pool (Err e) → OnlyRefuses {T = T} (Err e)

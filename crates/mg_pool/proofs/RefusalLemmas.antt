@@ -1,7 +1,7 @@
 -- What a call leaves whose page write failed, after a run of page writes.
-use Rattle.std.proofs.Common.{◌≡◌, sym, ◌∙◌, None, subst}
+use Rattle.std.proofs.Common.{◌≡◌, ℕ, sym, ◌∙◌, None, subst}
 use Rattle.std.specs.Prelude.{Result, Ok, Err, MatchResult, IsErrAnd}
-use Rattle.mg_base.specs.Disk.{Meaning}
+use Rattle.mg_base.specs.Disk.{Meaning, Rose}
 use Rattle.mg_pool.specs.declared.pool.Pool.{Pool}
 use Rattle.mg_pool.specs.declared.fault.PoolFault.{PoolFault}
 use Rattle.mg_pool.specs.Fault.{TellsFault, OnlyWrites}
@@ -42,7 +42,12 @@ module _ {D L : Type 0} (m : Meaning D) (holds : Holds m) (counts : CountsNow m)
   fails_fault (Ok x) same online = absurd same
   fails_fault {T} (Err y) same online =
       let told = fails.fails.told in
-      subst (λ (f : PoolFault). TellsFault {T = T} m old new (Err f)) (sym (same ∙ told.1)) (online, told.2, counted m old fails.before new fails.written told.0 told.3)
+      subst (λ (f : PoolFault). TellsFault {T = T} m old new (Err f)) (sym (same ∙ told.1)) (
+        online,
+        told.2,
+        counted m old fails.before new fails.written told.0 told.3,
+        subst (λ (k : ℕ). Rose k (m.failed_writes new.disk)) fails.written.none_failed fails.fails.failed_writes,
+      )
 
   pub fails_own : {T : Type 0} (r : Result T PoolFault) → IsErrAnd r (λ y. y ≡ e) → OnlyWrites r
   fails_own (Ok x) same = absurd same

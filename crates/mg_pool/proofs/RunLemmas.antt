@@ -40,16 +40,18 @@ time_stands m disk = record {
   tells = refl;
   most_writes = refl;
   never_falls = omega arith;
+  failed_writes = omega arith;
   later = λ told. omega arith;
   keeps = λ told t c early left. left;
 }
 
 pub time_of_call : {D T E : Type 0} (m : Meaning D) (old new : D) (result : Result T E) → Keeps m old new result
-    → TimeGoesOn m old new
-time_of_call m old new result keeps = record {
+    → m.failed_writes old ≤ m.failed_writes new → TimeGoesOn m old new
+time_of_call m old new result keeps failed = record {
   tells = keeps.tells;
   most_writes = keeps.most_writes;
   never_falls = keeps.never_falls;
+  failed_writes = failed;
   later = λ told. (keeps.time told).later;
   keeps = λ told. (keeps.time told).keeps;
 }
@@ -59,6 +61,7 @@ time_then m a b c first next = record {
   tells = next.tells ∙ first.tells;
   most_writes = next.most_writes ∙ first.most_writes;
   never_falls = omega (arith, first.never_falls, next.never_falls);
+  failed_writes = omega (arith, first.failed_writes, next.failed_writes);
   later = λ told. let one = first.later told in let two = next.later (first.tells ∙ told) in omega (arith, one, two);
   keeps = λ told t image early left. let one = first.later told in
       next.keeps (first.tells ∙ told) t image (omega (arith, early, one)) (first.keeps told t image early left);
@@ -121,6 +124,7 @@ run_starts m start pool = record {
   offline = refl;
   faults = refl;
   steady = refl;
+  none_failed = refl;
   tells = refl;
   fewer = λ page dirty. dirty;
   count = omega arith;
@@ -182,6 +186,7 @@ module _ {D L : Type 0} (m : Meaning D) (holds : Holds m) (counts : CountsNow m)
     offline = w.offline ∙ run.offline;
     faults = w.faults ∙ run.faults;
     steady = w.steady ∙ run.steady;
+    none_failed = w.none_failed ∙ run.none_failed;
     tells = w.tells ∙ run.tells;
     fewer = λ p there. run.fewer p (still p there).1;
     count = omega (arith, w.taken.count, run.count);
@@ -222,6 +227,7 @@ run_then m holds counts a b c first next = record {
   offline = next.offline ∙ first.offline;
   faults = next.faults ∙ first.faults;
   steady = next.steady ∙ first.steady;
+  none_failed = next.none_failed ∙ first.none_failed;
   tells = next.tells ∙ first.tells;
   fewer = λ p dirty. first.fewer p (next.fewer p dirty);
   count = omega (arith, first.count, next.count);

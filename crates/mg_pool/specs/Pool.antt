@@ -117,12 +117,13 @@ resident pool page =
     if is_dirty pool.dirty page then content_of pool.dirty page else kept_in pool.clean page
 
 -- a call that writes no page: the disk holds what it held, a crash leaves nothing new, and no page
--- write was asked for; its count of faults doesn't fall, and as many page writes pass in all
+-- write was asked for; its counts of faults don't fall, and as many page writes pass in all
 pub record KeepsContent {D : Type 0} (m : Meaning D) (old new : D) : Type 0 where
   pub held : m.held new ≡ m.held old
   pub tells : m.tells new ≡ m.tells old
   pub most_writes : m.most_writes new ≡ m.most_writes old
   pub never_falls : m.faults old ≤ m.faults new
+  pub failed_writes : m.failed_writes old ≤ m.failed_writes new
   pub crash : m.tells old ≡ true → (image : Image) → MayLeave m new image → MayLeave m old image
   pub time : m.tells old ≡ true → Elapses m old new
   pub asked : m.asked new ≡ m.asked old

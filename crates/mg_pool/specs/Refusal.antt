@@ -1,6 +1,6 @@
 -- What a call leaves that answers with a fault.
 use Rattle.std.specs.Prelude.{◌≡◌, ℕ, ◌+◌, ◌≤◌, true, false, Some, Result, Ok, Err}
-use Rattle.mg_base.specs.Disk.{Meaning}
+use Rattle.mg_base.specs.Disk.{Meaning, Rose}
 use Rattle.mg_careful.specs.Graph.{is_ordered}
 use Rattle.mg_pool.specs.declared.pool.Pool.{Pool}
 use Rattle.mg_pool.specs.declared.fault.PoolFault.{PoolFault}
@@ -21,6 +21,7 @@ pub record FailsWrite {D L : Type 0} (m : Meaning D) (old new : Pool D L) (fault
   pub same : new ≡ record old { disk = new.disk; faults = new.faults; offline = new.offline }
   pub pool : IsPool m new
   pub told : (n : ℕ) × (fault ≡ DiskWrite n) × (new.offline ≡ Some n) × Counts m old new n
+  pub failed_writes : Rose (m.failed_writes old.disk) (m.failed_writes new.disk)
   pub kept : KeepsPages m old new
   pub time : TimeGoesOn m old.disk new.disk
   pub crash : LeavesOverlays m old new

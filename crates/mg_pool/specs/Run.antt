@@ -2,7 +2,7 @@
 use Rattle.std.specs.Prelude.{◌≡◌, ℕ, ◌+◌, ◌≤◌, ◌&&◌, true, false, Some, length}
 use Rattle.std.specs.List.{filter}
 use Rattle.mg_base.specs.Image.{Image}
-use Rattle.mg_base.specs.Disk.{Meaning}
+use Rattle.mg_base.specs.Disk.{FailsNoWrite, Meaning}
 use Rattle.mg_careful.specs.Precedence.{Precedes}
 use Rattle.mg_careful.specs.Graph.{is_ordered, ClearsPage}
 use Rattle.mg_pool.specs.declared.pool.Pool.{Pool}
@@ -10,12 +10,13 @@ use Rattle.mg_pool.specs.Batch.{IsOrPrecedes}
 use Rattle.mg_pool.specs.Dirty.{content_of, is_dirty, is_marked, TakesOut}
 use Rattle.mg_pool.specs.Pool.{IsPool, WritesOut, WritesSet, taken_out, LeavesOverlays}
 
--- Time went on at a disk: it tells what it told, lets as many page writes pass in all, its count of faults has not
+-- Time went on at a disk: it tells what it told, lets as many page writes pass in all, its counts of faults have not
 -- fallen, and what a crash might have left it still might have left.
 pub record TimeGoesOn {D : Type 0} (m : Meaning D) (old new : D) : Type 0 where
   pub tells : m.tells new ≡ m.tells old
   pub most_writes : m.most_writes new ≡ m.most_writes old
   pub never_falls : m.faults old ≤ m.faults new
+  pub failed_writes : m.failed_writes old ≤ m.failed_writes new
   pub later : m.tells old ≡ true → m.moment old ≤ m.moment new
   pub keeps : m.tells old ≡ true → (t : ℕ) (c : Image) → t ≤ m.moment old → m.left old t c
       → m.left new t c
@@ -27,6 +28,7 @@ pub record WritesPage {D L : Type 0} (m : Meaning D) (old new : Pool D L) (page 
   pub offline : new.offline ≡ old.offline
   pub faults : new.faults ≡ old.faults
   pub steady : m.faults new.disk ≡ m.faults old.disk
+  pub none_failed : FailsNoWrite m old.disk new.disk
   pub tells : m.tells new.disk ≡ m.tells old.disk
   pub asked : m.asked new.disk ≤ m.asked old.disk + 1
   pub taken : TakesOut old.dirty new.dirty page
@@ -44,6 +46,7 @@ pub record HasWritten {D L : Type 0} (m : Meaning D) (start now : Pool D L) : Ty
   pub offline : now.offline ≡ start.offline
   pub faults : now.faults ≡ start.faults
   pub steady : m.faults now.disk ≡ m.faults start.disk
+  pub none_failed : FailsNoWrite m start.disk now.disk
   pub tells : m.tells now.disk ≡ m.tells start.disk
   pub fewer : (page : ℕ) → is_dirty now.dirty page ≡ true → is_dirty start.dirty page ≡ true
   pub count : length now.dirty.pages ≤ length start.dirty.pages

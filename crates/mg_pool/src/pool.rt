@@ -4,7 +4,7 @@ ghost use Rattle.std.specs.Option.{option_copied};
 ghost use Rattle.std.specs.Bool.{OnTrue};
 ghost use Rattle.std.specs.Prelude.{◌≡◌, ◌≢◌, ◌⊎◌, ◌<◌, ◌≤◌, ◌+◌, ◌-◌, ◌^◌, min, Err, None, [], ℕ, length, unwrap_or, IfOk, IfSome, IsSome, true, false, Some, OnOk, OnErr, IfErr};
 ghost use Rattle.mg_base.specs.Image.{Image, page_at};
-ghost use Rattle.mg_base.specs.Disk.{MayLeave, Calm, ReadsPage};
+ghost use Rattle.mg_base.specs.Disk.{MayLeave, Calm, ReadsPage, FailsNoWrite};
 ghost use Rattle.mg_careful.specs.Graph.{IsFirstReady};
 ghost use Rattle.mg_pool.specs.Dirty.{is_dirty as dirty_test, is_marked, IsLeastPage, MarksAll};
 ghost use Rattle.mg_pool.specs.Fault.{TellsFault, OnlyWrites, OnlyRefuses};
@@ -238,7 +238,7 @@ impl<D: Disk, L: Links> Pool<D, L> {
     /// # Errors
     ///
     /// `Offline` exactly where an earlier call answered `DiskWrite`, and then all is as it was;
-    /// `DiskWrite` only where the disk's count of faults rose in this call. The pages, orders and
+    /// `DiskWrite` only where the disk's count of failed page writes rose in this call. The pages, orders and
     /// marks are then as before.
     pub fn write_one(&mut self, goal: PageNo) -> Result<PageNo, PoolFault>
         requires pool { IsPool D.meaning self.old }
@@ -271,7 +271,8 @@ impl<D: Disk, L: Links> Pool<D, L> {
     /// # Errors
     ///
     /// `Offline` exactly where an earlier call answered `DiskWrite`, and then all is as it was;
-    /// `DiskWrite` only where the disk's count of faults rose in this call.
+    /// `DiskWrite` only where the disk's count of failed page writes, which counts settling too, rose in this
+    /// call.
     pub fn settle(&mut self) -> Result<(), PoolFault>
         requires pool { IsPool D.meaning self.old }
 
@@ -307,7 +308,7 @@ impl<D: Disk, L: Links> Pool<D, L> {
     /// # Errors
     ///
     /// `Offline` exactly where an earlier call answered `DiskWrite`; `DiskRead` only where the
-    /// disk's count of faults rose in this call; `Absent` exactly where the page is neither dirty
+    /// disk's count of faults rose in this call, and none of them was of a page write; `Absent` exactly where the page is neither dirty
     /// nor on the disk; `Memory`. The same pages are resident then, with the same contents.
     pub fn fetch(&mut self, page: PageNo) -> Result<(), PoolFault>
         requires pool { IsPool D.meaning self.old }
@@ -408,6 +409,7 @@ fn read_into<D: Disk>(disk: &mut D, page: PageNo, buffer: &mut Vec<u8>) -> Resul
         → buffer.new.items ≡ page_at (length buffer.old.items) image page.0) }
     ensures calm { Calm D.meaning disk.old disk.new result }
     ensures reads { ReadsPage D.meaning disk.old disk.new page.0 }
+    ensures no_failed_write { FailsNoWrite D.meaning disk.old disk.new }
 {
     disk.read(page, buffer)
 }

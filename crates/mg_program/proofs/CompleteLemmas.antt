@@ -27,9 +27,9 @@ module _ {D : Type 0} (m : Meaning D) (old new : D) (ok : Rose (m.faults old) (m
   -- the status of a refusal that is none of the disk's faults, and no judgement of what the disk holds
   by_refusal : (refusal : Refusal) → FailsWith m old new refusal → IsNoJudgement refusal
       → (refused_status refusal ≡ status 1) ⊎ (refusal ≡ refusals.Memory)
-  by_refusal (refusals.DiskRead faults) fails judged = absurd (ok fails)
-  by_refusal (refusals.DiskWrite faults) fails judged = absurd (ok fails)
-  by_refusal (refusals.Offline faults) fails judged = absurd (ok fails)
+  by_refusal (refusals.DiskRead faults) fails judged = absurd (ok fails.0)
+  by_refusal (refusals.DiskWrite faults) fails judged = absurd (ok fails.0)
+  by_refusal (refusals.Offline faults) fails judged = absurd (ok fails.0)
   by_refusal (refusals.NotADatabase field found) fails judged = absurd judged
   by_refusal (refusals.Damaged page field found wanted) fails judged = absurd judged
   by_refusal refusals.Memory fails judged = inr refl
@@ -38,9 +38,9 @@ module _ {D : Type 0} (m : Meaning D) (old new : D) (ok : Rose (m.faults old) (m
   -- and of one by which a run stops within its lines,
   in_line : (refusal : Refusal) → stops_run refusal ≡ true → FailsWith m old new refusal → IsNoJudgement refusal
       → refusal ≡ refusals.Memory
-  in_line (refusals.DiskRead faults) stops fails judged = absurd (ok fails)
-  in_line (refusals.DiskWrite faults) stops fails judged = absurd (ok fails)
-  in_line (refusals.Offline faults) stops fails judged = absurd (ok fails)
+  in_line (refusals.DiskRead faults) stops fails judged = absurd (ok fails.0)
+  in_line (refusals.DiskWrite faults) stops fails judged = absurd (ok fails.0)
+  in_line (refusals.Offline faults) stops fails judged = absurd (ok fails.0)
   in_line (refusals.Damaged page field found wanted) stops fails judged = absurd judged
   in_line refusals.Memory stops fails judged = refl
   in_line refusal stops fails judged = absurd cc
@@ -48,8 +48,8 @@ module _ {D : Type 0} (m : Meaning D) (old new : D) (ok : Rose (m.faults old) (m
   -- or at the opening
   at_opening : (refusal : Refusal) → IsOpeningFault refusal → FailsWith m old new refusal
       → refusal ≡ refusals.Memory
-  at_opening (refusals.DiskRead faults) cause fails = absurd (ok fails)
-  at_opening (refusals.DiskWrite faults) cause fails = absurd (ok fails)
+  at_opening (refusals.DiskRead faults) cause fails = absurd (ok fails.0)
+  at_opening (refusals.DiskWrite faults) cause fails = absurd (ok fails.0)
   at_opening refusals.Memory cause fails = refl
   at_opening refusal cause fails = absurd cause
 

@@ -131,18 +131,38 @@ module _ {D : Type 0} (m : Meaning D) (counts_to : ℕ) where
 
   module _ (most : ℕ) (old new : Stopped D) (none : blown_of old ≡ 0) (within : StopsWithin m counts_to most (inner_of old) new)
     where
-      -- where the fuse refused no page write, it was the disk that failed
-      by_disk : Rose (m.faults (inner_of old) + blown_of old) (m.faults (inner_of new) + blown_of new)
-          → Rose (m.faults (inner_of old)) (m.faults (inner_of new)) ⊎ AsksExactly m counts_to most (inner_of old) (inner_of new)
-      by_disk rose = at (cases_eq (blown_of new) 0) rose
+      rises_so : (before now : ℕ) → blown_of new ≡ 0 → Rose (before + blown_of old) (now + blown_of new) → Rose before now
+      rises_so before now zero (inl rises) = inl (omega (arith, none, zero, rises))
+      rises_so before now zero (inr end) = inr (omega (arith, zero, end))
+
+      -- where the fuse refused no page write, it was the disk that failed: in a read,
+      by_read : FailsWith (stopped_meaning m counts_to) old new (refusals.DiskRead 0)
+          → FailsWith m (inner_of old) (inner_of new) (refusals.DiskRead 0)
+          ⊎ AsksExactly m counts_to most (inner_of old) (inner_of new)
+      by_read rose = at (cases_eq (blown_of new) 0)
         where
-          at : (blown_of new ≡ 0) ⊎ (blown_of new ≢ 0)
-              → Rose (m.faults (inner_of old) + blown_of old) (m.faults (inner_of new) + blown_of new)
-              → Rose (m.faults (inner_of old)) (m.faults (inner_of new))
+          at : (blown_of new ≡ 0) ⊎ (blown_of new ≢ 0) → FailsWith m (inner_of old) (inner_of new) (refusals.DiskRead 0)
               ⊎ AsksExactly m counts_to most (inner_of old) (inner_of new)
-          at (inl zero) (inl rises) = inl (inl (omega (arith, none, zero, rises)))
-          at (inl zero) (inr end) = inl (inr (omega (arith, zero, end)))
-          at (inr some) rises = inr (within.all (omega (arith, some)))
+          at (inl zero) = inl (
+            rises_so (m.faults (inner_of old)) (m.faults (inner_of new)) zero rose.0,
+            (let same : m.failed_writes (inner_of new) + blown_of new ≡ m.failed_writes (inner_of old) + blown_of old = rose.1 in
+                omega (arith, none, zero, same)),
+          )
+          at (inr some) = inr (within.all (omega (arith, some)))
+
+      -- or in a page write
+      by_write : FailsWith (stopped_meaning m counts_to) old new (refusals.DiskWrite 0)
+          → FailsWith m (inner_of old) (inner_of new) (refusals.DiskWrite 0)
+          ⊎ AsksExactly m counts_to most (inner_of old) (inner_of new)
+      by_write rose = at (cases_eq (blown_of new) 0)
+        where
+          at : (blown_of new ≡ 0) ⊎ (blown_of new ≢ 0) → FailsWith m (inner_of old) (inner_of new) (refusals.DiskWrite 0)
+              ⊎ AsksExactly m counts_to most (inner_of old) (inner_of new)
+          at (inl zero) = inl (
+            rises_so (m.faults (inner_of old)) (m.faults (inner_of new)) zero rose.0,
+            rises_so (m.failed_writes (inner_of old)) (m.failed_writes (inner_of new)) zero rose.1,
+          )
+          at (inr some) = inr (within.all (omega (arith, some)))
 
       not_risen : m.faults (inner_of new) + blown_of new ≡ m.faults (inner_of old) + blown_of old
           → m.faults (inner_of new) ≤ m.faults (inner_of old)
@@ -150,9 +170,9 @@ module _ {D : Type 0} (m : Meaning D) (counts_to : ℕ) where
 
       fails_or_stops : (refusal : Refusal) → FailsWith (stopped_meaning m counts_to) old new refusal
           → FailsOrStops m (AsksExactly m counts_to most (inner_of old) (inner_of new)) (inner_of old) (inner_of new) refusal
-      fails_or_stops (refusals.DiskRead faults) fails = by_disk fails
-      fails_or_stops (refusals.DiskWrite faults) fails = by_disk fails
-      fails_or_stops (refusals.Offline faults) fails = by_disk fails
+      fails_or_stops (refusals.DiskRead faults) fails = by_read fails
+      fails_or_stops (refusals.DiskWrite faults) fails = by_write fails
+      fails_or_stops (refusals.Offline faults) fails = by_write fails
       fails_or_stops refusal fails = not_risen fails
 
       ends_or_stops : (end : RunEnd) → EndsWith (stopped_meaning m counts_to) old new end

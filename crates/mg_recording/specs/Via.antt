@@ -32,6 +32,7 @@ via m keeper knows = record {
   left = λ t. m.left (keeper t);
   holds = λ t. m.holds (keeper t);
   faults = λ t. m.faults (keeper t);
+  failed_writes = λ t. m.failed_writes (keeper t);
   damage = λ t. m.damage (keeper t);
   shortages = λ t. m.shortages (keeper t);
   page_limit = λ t. m.page_limit (keeper t);

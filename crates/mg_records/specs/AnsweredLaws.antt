@@ -29,7 +29,7 @@ module _ {R P : Type 0} (m : Means R P) where
   steps_answered old new o h t (Err (refusals.NotActive state)) well answers takes cause =
       let is = answers o h well.stands in
       absurd (false≢true (sym is.1 ∙ ap is_active (sym is.0 ∙ well.active)))
-  steps_answered old new o h t (Err (refusals.DiskWrite n)) well answers takes cause = absurd (well.steady cause)
+  steps_answered old new o h t (Err (refusals.DiskWrite n)) well answers takes cause = absurd (well.steady cause.0)
   steps_answered old new o h t (Err (refusals.Offline n)) well answers takes cause =
       absurd (none-some n (sym well.online ∙ cause))
   steps_answered old new o h t (Err refusal) well answers takes cause = absurd takes
@@ -48,7 +48,7 @@ module _ {R P : Type 0} (m : Means R P) where
   ends_answered event is old new o h t (Ok x) reserves well adds takes cause = refl
   ends_answered event is old new o h t (Err (refusals.NotActive state)) reserves well adds takes cause =
       absurd (not_refused o h (event t) t.0 state (is o h t) well.active (adds o h well.stands).0)
-  ends_answered event is old new o h t (Err (refusals.DiskWrite n)) reserves well adds takes cause = absurd (well.steady cause)
+  ends_answered event is old new o h t (Err (refusals.DiskWrite n)) reserves well adds takes cause = absurd (well.steady cause.0)
   ends_answered event is old new o h t (Err (refusals.Offline n)) reserves well adds takes cause =
       absurd (none-some n (sym well.online ∙ cause))
   ends_answered event is old new o h t (Err refusal) reserves well adds takes cause = absurd (takes reserves)

@@ -2,7 +2,7 @@
 use Rattle.std.specs.Prelude.{◌≡◌, ℕ, ◌≤◌, List, true, false, Option, Some, None, Result, Ok, Err}
 use Rattle.mg_base.specs.Image.{Image}
 use Rattle.mg_base.specs.Disk.{Rose}
-use Rattle.mg_faults.specs.Faults.{tells_fault}
+use Rattle.mg_faults.specs.Faults.{tells_failed_write, tells_fault}
 use Rattle.mg_model.specs.declared.opening.Opening.{Opening}
 use Rattle.mg_model.specs.declared.refusal.Refusal.{Refusal}
 use Rattle.mg_model.specs.declared.refusal.Refusal.TheVariants.{DatabaseFull, DiskRead, DiskWrite, Offline, Damaged, Memory}
@@ -17,10 +17,18 @@ abbrev pub refusal_in : {T : Type 0} → Result T Refusal → Option Refusal
 refusal_in (Ok x) = None
 refusal_in (Err r) = Some r
 
+-- the disk's counts of faults have not fallen
+abbrev pub FaultsGrow : {R P : Type 0} → Means R P → R → R → Type 0
+FaultsGrow m old new = (m.faults old ≤ m.faults new) × (m.failed_writes old ≤ m.failed_writes new)
+
+-- a page write failed, or its settling: both have risen
+abbrev pub WriteFailed : {R P : Type 0} → Means R P → R → R → Type 0
+WriteFailed m old new = Rose (m.faults old) (m.faults new) × Rose (m.failed_writes old) (m.failed_writes new)
+
 -- a refusal has no other cause than this; want of pages names the page limit
 abbrev pub Causes : {R P : Type 0} → Means R P → R → R → Option Refusal → Type 0
 Causes m old new (Some (DiskRead count)) = Rose (m.faults old) (m.faults new)
-Causes m old new (Some (DiskWrite count)) = Rose (m.faults old) (m.faults new)
+Causes m old new (Some (DiskWrite count)) = WriteFailed m old new
 Causes m old new (Some (Damaged page field found wanted)) = Rose (m.damage old) (m.damage new)
 Causes m old new (Some (DatabaseFull limit)) = Rose (m.shortages old) (m.shortages new) × (limit ≡ m.page_limit old)
 Causes m old new (Some (Offline count)) = m.down old ≡ Some count
@@ -46,7 +54,7 @@ pub record Elapses {R P : Type 0} (m : Means R P) (old new : R) : Type 0 where
 -- What every call keeps, whatever it answers.
 pub record Keeps {R P : Type 0} (m : Means R P) (old new : R) (refusal : Option Refusal)
     : Type 0 where
-  pub faults : m.faults old ≤ m.faults new
+  pub faults : FaultsGrow m old new
   pub damage : m.damage old ≤ m.damage new
   pub shortages : m.shortages old ≤ m.shortages new
   pub cause : Causes m old new refusal
@@ -62,9 +70,11 @@ pub record Keeps {R P : Type 0} (m : Means R P) (old new : R) (refusal : Option 
   pub given : (table : Table) → m.was_given old table → m.was_given new table
   pub places : (table : Table) (place : P) → m.is_place old table place → m.is_place new table place
 
--- a fault of the disk is told: where the refusal tells none, the disk's count of faults stands
+-- A fault of the disk is told, and as what it is: where the refusal tells none, the disk's count of faults stands, and
+-- where it tells no failed page write, none failed.
 abbrev pub FaultsAreTold : {R P : Type 0} → Means R P → R → R → Option Refusal → Type 0
-FaultsAreTold m old new refusal = tells_fault refusal ≡ false → m.faults new ≡ m.faults old
+FaultsAreTold m old new refusal = (tells_fault refusal ≡ false → m.faults new ≡ m.faults old)
+    × (tells_failed_write refusal ≡ false → m.failed_writes new ≡ m.failed_writes old)
 
 -- where it is told what a crash may leave, no page is found damaged
 abbrev pub FindsNoDamage : {R P : Type 0} → Means R P → R → R → Type 0

@@ -38,8 +38,10 @@ pub record Means (R P : Type 0) : Type 1 where
   -- an image holds what outlasts a crash after some durable event of a history, and after so many at
   -- least
   pub holds : R → Opening → Entries → ℕ → Image → Type 0
-  -- how often the disk failed, how often a page was found damaged, and how often pages were short
+  -- how often the disk failed, and how many of these faults were of page writes or of settling; how often a page was
+  -- found damaged, and how often pages were short
   pub faults : R → ℕ
+  pub failed_writes : R → ℕ
   pub damage : R → ℕ
   pub shortages : R → ℕ
   -- how many pages it may have at most

@@ -106,6 +106,7 @@ with_room m = record {
   left = m.left;
   holds = m.holds;
   faults = m.faults;
+  failed_writes = m.failed_writes;
   damage = m.damage;
   shortages = m.shortages;
   page_limit = m.page_limit;

@@ -1,6 +1,6 @@
 -- How a run ends: its status, and what is printed of a fault outside the lines.
 use Rattle.std.specs.Prelude.{◌≡◌, ◌⊎◌, ℕ, Bool, true, false, List, [], ◌∷◌, ◌++◌, Option, None, Some, codes}
-use Rattle.mg_base.specs.Disk.{Meaning, Rose}
+use Rattle.mg_base.specs.Disk.{FailsNoWrite, Meaning, Rose}
 use Rattle.mg_model.specs.declared.refusal.Refusal.{Refusal}
 use Rattle.mg_model.specs.declared.refusal.Refusal.TheVariants as refusals
 use Rattle.mg_script.specs.Texts.{outside_text}
@@ -50,11 +50,14 @@ abbrev pub IsOutside : Refusal → RunEnd → Type 0
 IsOutside refusal end =
     (end ≡ Outside refusal) ⊎ ((has_fixed_line refusal ≡ false) × (end ≡ Outside refusals.Memory))
 
--- a refusal by the disk comes only where its count of faults rose, and any other only where it stands
+-- A refusal by the disk comes only where its count of faults rose, and any other only where it stands. A read fault is
+-- told only where no page write failed, nor the settling; a write fault, and that the disk is offline, only where one did.
 abbrev pub FailsWith : {D : Type 0} → Meaning D → D → D → Refusal → Type 0
-FailsWith m old new (refusals.DiskRead faults) = Rose (m.faults old) (m.faults new)
-FailsWith m old new (refusals.DiskWrite faults) = Rose (m.faults old) (m.faults new)
-FailsWith m old new (refusals.Offline faults) = Rose (m.faults old) (m.faults new)
+FailsWith m old new (refusals.DiskRead faults) = Rose (m.faults old) (m.faults new) × FailsNoWrite m old new
+FailsWith m old new (refusals.DiskWrite faults) =
+    Rose (m.faults old) (m.faults new) × Rose (m.failed_writes old) (m.failed_writes new)
+FailsWith m old new (refusals.Offline faults) =
+    Rose (m.faults old) (m.faults new) × Rose (m.failed_writes old) (m.failed_writes new)
 FailsWith m old new refusal = m.faults new ≡ m.faults old
 
 -- where nothing was refused, it stands

@@ -2,7 +2,8 @@
 use Rattle.std.specs.Prelude.{false, is_some, length, unwrap_or}
 use Rattle.std.proofs.Common.{◌≡◌, ◌⊎◌, inl, inr, ◌≤◌, ℕ, List, Option, None, Some, Ok, Err, refl, sym, ap, ◌∙◌, subst, arith}
 use Rattle.std.proofs.Math.Path.{fun_ext}
-use Rattle.mg_base.specs.Disk.{Meaning, Rose}
+use Rattle.mg_base.specs.Disk.{FailsNoWrite, Meaning, Rose}
+use Rattle.mg_faults.specs.Faults.{each_fault, failed_writes}
 use Rattle.mg_base.specs.Image.{Image, page_at}
 use Rattle.mg_base.specs.declared.damage.Damaged.{Damaged}
 use Rattle.mg_core.specs.Opening.{FailsToRead, IsOpenRefusal, RefusesOpen, unprepared, unread}
@@ -61,18 +62,21 @@ module _ {D : Type 0} (m : Meaning D) (disk new : D) (limit : ℕ) (refusal : Re
       → FailsWith m disk new refusal
   unprepared_fails _ (unasked count keeps same rose) is = subst (FailsWith m disk new) (sym is) rose
   unprepared_fails _ (no_memory keeps same steady) is = subst (FailsWith m disk new) (sym is) steady
-  unprepared_fails _ (unmade count fails) is = subst (FailsWith m disk new) (sym is) fails.rose
+  unprepared_fails _ (unmade count fails) is = subst (FailsWith m disk new) (sym is) (fails.rose, fails.failed_writes)
 
   -- a read failed, after the disk was prepared
   read_rose : (count : ℕ) → FailsToRead m disk new limit (Space (space.Pool (faults.DiskRead count)))
-      → Rose (m.faults disk) (m.faults new)
-  read_rose count fails = subst (λ (d : D). Rose (m.faults disk) (m.faults d)) (sym fails.is_disk)
-      (subst (λ (n : ℕ). Rose n (m.faults fails.after.disk)) fails.prepared.steady fails.told.2.2)
+      → Rose (m.faults disk) (m.faults new) × FailsNoWrite m disk new
+  read_rose count fails = (
+    subst (λ (d : D). Rose (m.faults disk) (m.faults d)) (sym fails.is_disk)
+        (subst (λ (n : ℕ). Rose n (m.faults fails.after.disk)) fails.prepared.steady fails.told.2.2),
+    ap m.failed_writes fails.is_disk ∙ (fails.told.3 ∙ fails.prepared.none_failed),
+  )
 
   -- no call of the disk failed
   read_steady : (fault : OpenFault) (fails : FailsToRead m disk new limit fault)
       → StaysOnline m fails.before fails.after → m.faults new ≡ m.faults disk
-  read_steady fault fails online = ap m.faults fails.is_disk ∙ (ap (λ (counts : ℕ × ℕ). counts.1) online.2
+  read_steady fault fails online = ap m.faults fails.is_disk ∙ (ap (λ (counts : ℕ × ℕ × ℕ). counts.1) online.2
       ∙ fails.prepared.steady)
 
   unread_fails : (fault : OpenFault) → FailsToRead m disk new limit fault → IsOpenRefusal fault refusal
@@ -206,45 +210,63 @@ openings_fail m disk new limit refusal refused = opening_fails m disk new limit 
 
 -- ---- the lines
 
+-- a page write has failed: both counts of a disk have risen
+abbrev BothRose : {D : Type 0} → Meaning D → D → D → Type 0
+BothRose m old new = Rose (m.faults old) (m.faults new) × Rose (m.failed_writes old) (m.failed_writes new)
+
+-- and so since an earlier moment up to which no call of it has failed
+both_since : {D : Type 0} (m : Meaning D) (disk old new : D) → m.faults old ≡ m.faults disk → FailsNoWrite m disk old
+    → BothRose m old new → BothRose m disk new
+both_since m disk old new steady none rose = (
+  subst (λ (n : ℕ). Rose n (m.faults new)) steady rose.0,
+  subst (λ (n : ℕ). Rose n (m.failed_writes new)) none rose.1,
+)
+
 -- what is blamed on the disk has risen since the start; else the count stands
 blamed : {D P : Type 0} (m : Meaning D) (places : Places P) (disk : D) (core now : Core D) (refusal : Refusal)
-    → m.faults core.store.disk ≡ m.faults disk → core.store.offline ≡ None
+    → m.faults core.store.disk ≡ m.faults disk → FailsNoWrite m disk core.store.disk → core.store.offline ≡ None
     → Accounts (means_with_room m places) core now (Some refusal) → FailsWith m disk now.store.disk refusal
-blamed m places disk core now (refusals.DiskRead count) steady online accounts =
-    subst (λ (n : ℕ). Rose n (m.faults now.store.disk)) steady accounts.cause
-blamed m places disk core now (refusals.DiskWrite count) steady online accounts =
-    subst (λ (n : ℕ). Rose n (m.faults now.store.disk)) steady accounts.cause
-blamed m places disk core now (refusals.Offline count) steady online accounts = at accounts.cause
+blamed m places disk core now (refusals.DiskRead count) steady none online accounts = (
+  subst (λ (n : ℕ). Rose n (m.faults now.store.disk)) steady accounts.cause,
+  accounts.steady failed_writes refl ∙ none,
+)
+blamed m places disk core now (refusals.DiskWrite count) steady none online accounts =
+    both_since m disk core.store.disk now.store.disk steady none accounts.cause
+blamed m places disk core now (refusals.Offline count) steady none online accounts = at accounts.cause
   where
-    at : (core.store.offline ≡ Some count) ⊎ Rose (m.faults core.store.disk) (m.faults now.store.disk)
-        → Rose (m.faults disk) (m.faults now.store.disk)
+    at : (core.store.offline ≡ Some count) ⊎ BothRose m core.store.disk now.store.disk → BothRose m disk now.store.disk
     at (inl down) = absurd (no_count core.store.offline count online down)
-    at (inr rose) = subst (λ (n : ℕ). Rose n (m.faults now.store.disk)) steady rose
-blamed m places disk core now refusal steady online accounts = accounts.steady refl ∙ steady
+    at (inr rose) = both_since m disk core.store.disk now.store.disk steady none rose
+blamed m places disk core now refusal steady none online accounts = accounts.steady each_fault refl ∙ steady
 
 pub lines_fail : {D P : Type 0} (m : Meaning D) (places : Places P) → LinesFail m places
-lines_fail m places disk limit core now None opened accounts = accounts.steady refl ∙ opened.steady
+lines_fail m places disk limit core now None opened accounts = accounts.steady each_fault refl ∙ opened.steady
 lines_fail m places disk limit core now (Some refusal) opened accounts =
-    blamed m places disk core now refusal opened.steady opened.online accounts
+    blamed m places disk core now refusal opened.steady opened.none_failed opened.online accounts
 
 -- ---- the end
 
 module _ {D : Type 0} (m : Meaning D) (disk new : D) (core now : Core D) (steady : m.faults core.store.disk ≡ m.faults disk)
-    (online : core.store.offline ≡ None) (later : m.faults core.store.disk ≤ m.faults now.store.disk)
-    (down : (now.store.offline ≡ core.store.offline) ⊎ Rose (m.faults core.store.disk) (m.faults now.store.disk)) where
-  went_down : (count : ℕ) → now.store.offline ≡ Some count → Rose (m.faults disk) (m.faults now.store.disk)
+    (none : FailsNoWrite m disk core.store.disk) (online : core.store.offline ≡ None)
+    (later : (m.faults core.store.disk ≤ m.faults now.store.disk)
+    × (m.failed_writes core.store.disk ≤ m.failed_writes now.store.disk))
+    (down : (now.store.offline ≡ core.store.offline) ⊎ BothRose m core.store.disk now.store.disk) where
+  went_down : (count : ℕ) → now.store.offline ≡ Some count → BothRose m disk now.store.disk
   went_down count is = at down
     where
-      at : (now.store.offline ≡ core.store.offline) ⊎ Rose (m.faults core.store.disk) (m.faults now.store.disk)
-          → Rose (m.faults disk) (m.faults now.store.disk)
+      at : (now.store.offline ≡ core.store.offline) ⊎ BothRose m core.store.disk now.store.disk
+          → BothRose m disk now.store.disk
       at (inl same) = absurd (no_count core.store.offline count online (sym same ∙ is))
-      at (inr rose) = subst (λ (n : ℕ). Rose n (m.faults now.store.disk)) steady rose
+      at (inr rose) = both_since m disk core.store.disk now.store.disk steady none rose
 
   closing_fails : (refusal : Refusal) → RefusesClose m now new refusal → FailsWith m disk new refusal
-  closing_fails (refusals.Offline count) why = subst (λ (d : D). Rose (m.faults disk) (m.faults d)) (sym why.1)
-      (went_down count why.0)
-  closing_fails (refusals.DiskWrite count) why = rose_since (m.faults disk) (m.faults now.store.disk) (m.faults new)
-      (omega (arith, steady, later)) why.1
+  closing_fails (refusals.Offline count) why = subst (BothRose m disk) (sym why.1) (went_down count why.0)
+  closing_fails (refusals.DiskWrite count) why = (
+    rose_since (m.faults disk) (m.faults now.store.disk) (m.faults new)
+        (let first = later.0 in omega (arith, steady, first)) why.1,
+    rose_since (m.failed_writes disk) (m.failed_writes now.store.disk) (m.failed_writes new)
+        (let second = later.1 in omega (arith, none, second)) why.2,
+  )
   closing_fails (refusals.DiskRead count) why = absurd why
   closing_fails (refusals.UpdateConflict by) why = absurd why
   closing_fails (refusals.LockConflict by) why = absurd why
@@ -267,6 +289,6 @@ module _ {D : Type 0} (m : Meaning D) (disk new : D) (core now : Core D) (steady
 
 pub closings_fail : {D P : Type 0} (m : Meaning D) (places : Places P) → ClosingsFail m places
 closings_fail m places disk new limit core now (Ok x) opened accounts closes =
-    closes.ended.1 ∙ (accounts.steady refl ∙ opened.steady)
+    closes.ended.1 ∙ (accounts.steady each_fault refl ∙ opened.steady)
 closings_fail m places disk new limit core now (Err refusal) opened accounts closes =
-    closing_fails m disk new core now opened.steady opened.online accounts.faults accounts.down refusal closes.ended
+    closing_fails m disk new core now opened.steady opened.none_failed opened.online accounts.faults accounts.down refusal closes.ended

@@ -1,6 +1,7 @@
 -- No line, no rolling back at the end and no closing says of a disk on which a history can begin that it holds no
 -- database, or that a page is damaged.
-use Rattle.std.proofs.Common.{◌≡◌, inl, inr, ℕ, Bool, true, false, List, [], ◌∷◌, Some, refl, sym, subst, if◌then◌else◌, arith}
+use Rattle.std.proofs.Common.{◌≡◌, inl, inr, ℕ, Bool, true, false, not, ◌&&◌, List, [], ◌∷◌, Some, refl, sym, subst, if◌then◌else◌, arith}
+use Rattle.std.proofs.lemmas.Bool.{and_parts}
 use Rattle.mg_base.specs.Disk.{Meaning, Rose}
 use Rattle.mg_base.specs.declared.damage.Field.{Field}
 use Rattle.mg_base.specs.declared.numbers.TxNo.{TxNo}
@@ -10,7 +11,7 @@ use Rattle.mg_calls.specs.Frames.{Blames}
 use Rattle.mg_core.specs.declared.parts.Core.{Core}
 use Rattle.mg_engine_meaning.specs.Openings.{IsNoJudgement}
 use Rattle.mg_engine_meaning.specs.Meaning.{Places, means_with_room}
-use Rattle.mg_faults.specs.Faults.{tells_fault}
+use Rattle.mg_faults.specs.Faults.{tells_failed_write, tells_fault}
 use Rattle.mg_model.specs.declared.answer.Answer.TheVariants as answers
 use Rattle.mg_model.specs.declared.event.Event.TheVariants as events
 use Rattle.mg_model.specs.declared.opening.Opening.{Opening}
@@ -128,12 +129,13 @@ module _ {D P : Type 0} (m : Meaning D) (places : Places P) (core now : Core D) 
 
   told_fair : (first : Refusal) (more : List Refusal) → FirstIsFair (first ∷ more)
       → Blames (means_with_room m places) core now (Some (told_first first more)) → IsNoJudgement (told_first first more)
-  told_fair first more fair cause = at (tells_fault (Some (last_of first more))) refl cause
+  told_fair first more fair cause =
+      at (tells_fault (Some (last_of first more)) && not (tells_failed_write (Some first))) refl cause
     where
-      at : (b : Bool) → tells_fault (Some (last_of first more)) ≡ b
+      at : (b : Bool) → (tells_fault (Some (last_of first more)) && not (tells_failed_write (Some first))) ≡ b
           → Blames (means_with_room m places) core now (Some (if b then last_of first more else first))
           → IsNoJudgement (if b then last_of first more else first)
-      at true tells cause_ = fault_fair (last_of first more) tells
+      at true tells cause_ = fault_fair (last_of first more) (and_parts _ _ tells).0
       at false tells cause_ = fair cause_
 
   -- however the lines came to their end

@@ -5,6 +5,7 @@ use Rattle.mg_base.specs.Disk.{Rose}
 use Rattle.mg_model.specs.declared.refusal.Refusal.{Refusal}
 use Rattle.mg_model.specs.declared.refusal.Refusal.TheVariants.{DatabaseFull, DiskRead, DiskWrite, Offline, Damaged}
 use Rattle.mg_records.specs.Meaning.{Means}
+use Rattle.mg_calls.specs.FrameLaws.{failed_before}
 use Rattle.mg_calls.specs.Frames.{Blames}
 use Rattle.mg_sessions.specs.AccountLaws.{account_blames}
 use Rattle.mg_sessions.specs.Accounts.{Accounts}
@@ -22,16 +23,14 @@ module _ {R P : Type 0} (m : Means R P) (old mid new : R) where
   caused_once : (x : Option Refusal) → Accounts m mid new x → (refusal : Refusal) → Blames m old mid (Some refusal)
       → Blames m old new (Some refusal)
   caused_once x later (DiskRead count) cause =
-      rose_then (m.faults old) (m.faults mid) (m.faults new) cause later.faults
-  caused_once x later (DiskWrite count) cause =
-      rose_then (m.faults old) (m.faults mid) (m.faults new) cause later.faults
+      rose_then (m.faults old) (m.faults mid) (m.faults new) cause later.faults.0
+  caused_once x later (DiskWrite count) cause = failed_before m old mid new cause later.faults
   caused_once x later (Damaged page field found wanted) cause =
       rose_then (m.damage old) (m.damage mid) (m.damage new) cause later.damage
   caused_once x later (DatabaseFull limit) cause =
       (rose_then (m.shortages old) (m.shortages mid) (m.shortages new) cause.0 later.shortages, cause.1)
   caused_once x later (Offline count) (inl down) = inl down
-  caused_once x later (Offline count) (inr rose) =
-      inr (rose_then (m.faults old) (m.faults mid) (m.faults new) rose later.faults)
+  caused_once x later (Offline count) (inr rose) = inr (failed_before m old mid new rose later.faults)
   caused_once x later refusal cause = tt
 
   -- later calls

@@ -14,8 +14,8 @@ use Rattle.mg_courses.specs.CarryLaws.{carries_read, carries_then}
 
 pub no_frames : {R P : Type 0} (m : Means R P) (r : R) (n : ℕ) → Frames m r r n None
 no_frames m r n = record {
-  faults = omega arith;
-  steady = λ quiet. refl;
+  faults = (omega arith, omega arith);
+  steady = λ k quiet. refl;
   damage = omega arith;
   shortages = omega arith;
   cause = tt;

@@ -17,6 +17,7 @@ use Rattle.mg_model.specs.Legal.{is_lasting}
 use Rattle.mg_model.specs.Machine.{state_of}
 use Rattle.mg_records.specs.Committing.{WritesOne}
 use Rattle.mg_records.specs.Crashing.{CrashesHold, HoldsOn, LeavesQuietly, LeavesWith}
+use Rattle.mg_faults.specs.FaultLaws.{none_told}
 use Rattle.mg_records.specs.Keeping.{FaultsAreTold, Keeps, Leaves, MeetsNoDamage, Reads}
 use Rattle.mg_records.specs.Meaning.{Means}
 use Rattle.mg_records.specs.Sessions.{SessionsStay}
@@ -71,7 +72,7 @@ pub spares_back : {R P : Type 0} (m : Means R P) (old mid new : R) (t : TxNo) (r
     → Spares m old mid t refusal false → Leaves m mid new None (Some t.0) (Some t.0)
     → FaultsAreTold m mid new None → SessionsStay m mid new None (Some t.0) → Spares m old new t refusal true
 spares_back m old mid new t refusal one leaves told sessions = record {
-  frames = frames_first m old mid new t.0 refusal None (λ quiet. refl) one.frames
+  frames = frames_first m old mid new t.0 refusal None (λ k quiet. refl) one.frames
       (frames_changes m mid new t.0 None leaves told);
   sessions = sessions_then m old mid new (Some t.0) one.sessions sessions;
 }
@@ -82,7 +83,8 @@ pub spares_not_back : {R P : Type 0} (m : Means R P) (old mid new : R) (t : TxNo
     → SessionsStay m mid new None None
     → Spares m old new t (Some later) false
 spares_not_back m old mid new t fault later goes one leaves told sessions = record {
-  frames = frames_then m old mid new t.0 (refusal_of fault) (Some later) (λ quiet. goes_on_by fault goes)
+  frames = frames_then m old mid new t.0 (refusal_of fault) (Some later)
+      (λ k quiet. none_told k (refusal_of fault) (goes_on_by fault goes))
       one.frames (frames_changes m mid new t.0 (Some later) leaves told);
   sessions = sessions_then m old mid new None one.sessions sessions;
 }
@@ -201,8 +203,8 @@ went_behind m lasts old mid new o h t over By Whole reads turn went =
 pub spares_none : {R P : Type 0} (m : Means R P) (r : R) (t : TxNo) → Spares m r r t None false
 spares_none m r t = record {
   frames = record {
-    faults = omega arith;
-    steady = λ quiet. refl;
+    faults = (omega arith, omega arith);
+    steady = λ k quiet. refl;
     damage = omega arith;
     shortages = omega arith;
     cause = tt;
@@ -274,7 +276,7 @@ pub spares_quiet : {R P : Type 0} (m : Means R P) (old new : R) (t : TxNo) (refu
 spares_quiet m old new t refusal over cause spares = record {
   frames = record {
     faults = spares.frames.faults;
-    steady = λ quiet. spares.frames.steady refl;
+    steady = λ k quiet. spares.frames.steady k refl;
     damage = spares.frames.damage;
     shortages = spares.frames.shortages;
     cause = cause;

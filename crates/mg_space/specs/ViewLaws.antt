@@ -1,7 +1,7 @@
 -- Laws of calls that only read, for those who make several of them.
 use Rattle.std.specs.Prelude.{◌≡◌, ◌≢◌, ◌<◌, ◌≤◌, ◌⊎◌, ◌+◌, ◌-◌, ◌^◌, min, ℕ, true, List, length, Option, Some, Result, Ok, Err, unwrap_or}
 use Rattle.std.proofs.Common.{refl, sym, ap, subst, ◌∙◌, arith, inl, inr}
-use Rattle.mg_base.specs.Disk.{MayLeave, Meaning, Rose}
+use Rattle.mg_base.specs.Disk.{FailsNoWrite, MayLeave, Meaning, Rose}
 use Rattle.mg_base.specs.Image.{Image}
 use Rattle.mg_base.specs.declared.geometry.Geometry.{Geometry}
 use Rattle.mg_pool.specs.Fault.{Counts, MeetsNoFault, TellsFault}
@@ -27,6 +27,7 @@ same_content m disk = record {
   tells = refl;
   most_writes = refl;
   never_falls = omega arith;
+  failed_writes = omega arith;
   crash = λ told c may. may;
   time = λ told. record {
     later = omega arith;
@@ -43,6 +44,7 @@ content_on m counts a b c first second = record {
   tells = second.tells ∙ first.tells;
   most_writes = second.most_writes ∙ first.most_writes;
   never_falls = let f = first.never_falls in let s = second.never_falls in omega arith;
+  failed_writes = let f = first.failed_writes in let s = second.failed_writes in omega arith;
   crash = λ told image may. first.crash told image (second.crash (first.tells ∙ told) image may);
   time = λ told. let f = first.time told in let s = second.time (first.tells ∙ told) in record {
     later = let x = f.later in let y = s.later in omega arith;
@@ -137,19 +139,30 @@ counts_on : {D L : Type 0} (m : Meaning D) (a b c : Pool D L) (n : ℕ) → Keep
     → MeetsNoFault m a b → Counts m b c n → Counts m a c n
 counts_on m a b c n kept same counts = (
   counts.0,
-  counts.1 ∙ ap (λ (both : ℕ × ℕ). min (both.0 + 1) (2 ^ 64 - 1)) same,
+  counts.1 ∙ ap (λ (c : ℕ × ℕ × ℕ). min (c.0 + 1) (2 ^ 64 - 1)) same,
   rose_on (m.faults a.disk) (m.faults b.disk) (m.faults c.disk) kept.disk.never_falls counts.2,
 )
+
+none_failed_of : {D L : Type 0} (m : Meaning D) (a b : Pool D L) → MeetsNoFault m a b → FailsNoWrite m a.disk b.disk
+none_failed_of m a b same = ap (λ (c : ℕ × ℕ × ℕ). c.2) same
 
 -- the fault of a call after others that answered, and have only read, is told for all of them
 pub fault_on : {D L T : Type 0} (m : Meaning D) (a b c : Pool D L) (result : Result T PoolFault)
     → KeepsStore m a b → MeetsNoFault m a b → TellsFault m b c result → TellsFault m a c result
 fault_on m a b c (Ok x) kept same tells =
     (sym kept.offline ∙ tells.0, tells.1, tells.2 ∙ same)
-fault_on m a b c (Err (DiskRead n)) kept same tells =
-    (sym kept.offline ∙ tells.0, tells.1, counts_on m a b c n kept same tells.2)
-fault_on m a b c (Err (DiskWrite n)) kept same tells =
-    (sym kept.offline ∙ tells.0, tells.1, counts_on m a b c n kept same tells.2)
+fault_on m a b c (Err (DiskRead n)) kept same tells = (
+  sym kept.offline ∙ tells.0,
+  tells.1,
+  counts_on m a b c n kept same tells.2,
+  tells.3 ∙ none_failed_of m a b same,
+)
+fault_on m a b c (Err (DiskWrite n)) kept same tells = (
+  sym kept.offline ∙ tells.0,
+  tells.1,
+  counts_on m a b c n kept same tells.2,
+  rose_on (m.failed_writes a.disk) (m.failed_writes b.disk) (m.failed_writes c.disk) kept.disk.failed_writes tells.3,
+)
 fault_on m a b c (Err (Offline n)) kept same tells =
     (sym kept.offline ∙ tells.0, tells.1, tells.2 ∙ same)
 fault_on m a b c (Err (Absent n)) kept same tells =

@@ -4,7 +4,7 @@ use Rattle.std.specs.Prelude.{◌↔◌, IsErr, IsTrue, Result, Ok, Err, IfOk, m
 use Rattle.std.proofs.lemmas.Bool.{cases_lt, false≢true}
 use Rattle.std.proofs.lemmas.List.{get_or_past}
 use Rattle.mg_base.specs.Asking.{kept_reads, no_reads, one_read}
-use Rattle.mg_base.specs.Disk.{KeepsReads, MayLeave, Meaning, ReadsPage, Calm, Rose, Stays}
+use Rattle.mg_base.specs.Disk.{Calm, FailsNoWrite, KeepsReads, MayLeave, Meaning, ReadsPage, Rose, Stays}
 use Rattle.mg_base.specs.Geometry.{is_page_size}
 use Rattle.mg_base.specs.Image.{Image, blank, page_at}
 use Rattle.mg_base.specs.declared.geometry.TheConstants.{GREATEST_LIMIT}
@@ -63,12 +63,13 @@ sized_same m old mid new size first told sized keeps = record {
 module _ {D : Type 0} (m : Meaning D) where
   -- a call that changes nothing keeps the content,
   pub calm_content : {T E : Type 0} {result : Result T E} (old new : D) → Calm m old new result
-      → KeepsContent m old new
-  calm_content old new calm = record {
+      → FailsNoWrite m old new → KeepsContent m old new
+  calm_content old new calm none = record {
     held = calm.held;
     tells = calm.keeps.tells;
     most_writes = calm.keeps.most_writes;
     never_falls = calm.keeps.never_falls;
+    failed_writes = omega (arith, none);
     crash = calm.crash;
     time = calm.keeps.time;
     asked = calm.asked;
@@ -89,21 +90,23 @@ module _ {D : Type 0} (m : Meaning D) where
 
   -- calls that answered
   pub asks_answered : {T E : Type 0} (old new : D) (x : T) → KeepsContent m old new
-      → m.faults new ≡ m.faults old → OnlyAsks {E = E} m old new (Ok x)
-  asks_answered old new x content steady = record {
+      → m.faults new ≡ m.faults old → FailsNoWrite m old new → OnlyAsks {E = E} m old new (Ok x)
+  asks_answered old new x content steady none = record {
     content = content;
     cause = λ is. absurd (false≢true is);
     steady = steady;
+    none_failed = none;
   }
 
   -- a call that failed
   pub asks_calm : {T U E : Type 0} (old new : D) (result : Result U E) (fault : E) → IsErr result
-      → Calm {T = T} m old new (Err fault) → OnlyAsks m old new result
-  asks_calm old new (Ok x) fault err calm = absurd (false≢true err)
-  asks_calm old new (Err e) fault err calm = record {
-    content = calm_content old new calm;
+      → Calm {T = T} m old new (Err fault) → FailsNoWrite m old new → OnlyAsks m old new result
+  asks_calm old new (Ok x) fault err calm none = absurd (false≢true err)
+  asks_calm old new (Err e) fault err calm none = record {
+    content = calm_content old new calm none;
     cause = λ is. calm.keeps.cause refl;
     steady = tt;
+    none_failed = none;
   }
 
   pub asks_same : {T U E : Type 0} (old new : D) (result : Result U E) (fault : E) → IsErr result
@@ -113,18 +116,20 @@ module _ {D : Type 0} (m : Meaning D) where
     content = asks.content;
     cause = λ is. asks.cause refl;
     steady = tt;
+    none_failed = asks.none_failed;
   }
 
   -- and one behind others that answered
   module _ (now : CountsNow m) (old mid new : D) (content : KeepsContent m old mid)
-      (steady : m.faults mid ≡ m.faults old) where
+      (steady : m.faults mid ≡ m.faults old) (none : FailsNoWrite m old mid) where
     pub asks_over : {T E : Type 0} (result : Result T E) → OnlyAsks m mid new result → OnlyAsks m old new result
     asks_over (Ok x) asks = asks_answered old new x (content_on m now old mid new content asks.content)
-        (asks.steady ∙ steady)
+        (asks.steady ∙ steady) (asks.none_failed ∙ none)
     asks_over (Err e) asks = record {
       content = content_on m now old mid new content asks.content;
       cause = λ is. subst (λ (n : ℕ). Rose n (m.faults new)) steady (asks.cause refl);
       steady = tt;
+      none_failed = asks.none_failed ∙ none;
     }
 
     pub asks_up : {T U E : Type 0} (result : Result U E) (fault : E) → IsErr result
@@ -132,8 +137,8 @@ module _ {D : Type 0} (m : Meaning D) where
     asks_up result fault err asks = asks_over result (asks_same mid new result fault err asks)
 
     pub calm_up : {T U E : Type 0} (result : Result U E) (fault : E) → IsErr result
-        → Calm {T = T} m mid new (Err fault) → OnlyAsks m old new result
-    calm_up result fault err calm = asks_over result (asks_calm mid new result fault err calm)
+        → Calm {T = T} m mid new (Err fault) → FailsNoWrite m mid new → OnlyAsks m old new result
+    calm_up result fault err calm still = asks_over result (asks_calm mid new result fault err calm still)
 
   -- no page was tested yet
   pub tested_none : (disk : D) (size pages : ℕ) → HasPages m disk size pages
@@ -142,6 +147,7 @@ module _ {D : Type 0} (m : Meaning D) where
     has = has;
     content = same_content m disk;
     steady = refl;
+    none_failed = refl;
     unmade = λ image held k some below. absurd (omega (arith, some, below));
   }
 
@@ -167,13 +173,14 @@ module _ {D : Type 0} (m : Meaning D) where
 
 pub tested_more : {D : Type 0} (m : Meaning D) → CountsNow m → (old mid new : D) (size pages n : ℕ)
     → HasTested m old mid size pages n → HasPages m new size pages → KeepsContent m mid new
-    → m.faults new ≡ m.faults mid
+    → m.faults new ≡ m.faults mid → FailsNoWrite m mid new
     → ((image : Image) → m.held mid ≡ Some image → IsUnmadeAt size n (page_at size image n))
     → HasTested m old new size pages (n + 1)
-tested_more m now old mid new size pages n so_far has content steady here = record {
+tested_more m now old mid new size pages n so_far has content steady none here = record {
   has = has;
   content = content_on m now old mid new so_far.content content;
   steady = steady ∙ so_far.steady;
+  none_failed = none ∙ so_far.none_failed;
   unmade = λ image held k some below. at image held k some below (cases_lt k n);
 }
   where

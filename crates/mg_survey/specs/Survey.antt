@@ -1,7 +1,7 @@
 -- What a disk is asked before it is opened, and on which a database may be made.
 use Rattle.std.specs.Prelude.{◌≡◌, ◌≢◌, ◌↔◌, ◌==◌, ◌<◌, ◌≤◌, ◌⊎◌, ℕ, zero, suc, true, List, length, max, Some, Result, IsErr, IsTrue, OnOk}
 use Rattle.mg_base.specs.Asking.{AsksReads}
-use Rattle.mg_base.specs.Disk.{Meaning, Rose}
+use Rattle.mg_base.specs.Disk.{FailsNoWrite, Meaning, Rose}
 use Rattle.mg_base.specs.Geometry.{is_page_size}
 use Rattle.mg_base.specs.Image.{Image, blank, page_at}
 use Rattle.mg_base.specs.declared.geometry.TheConstants.{GREATEST_LIMIT}
@@ -27,12 +27,13 @@ abbrev pub AreUnmadeBehind : ℕ → Pages → Type 0
 AreUnmadeBehind size pages =
     (n : ℕ) → 1 ≤ n → n < GREATEST_LIMIT → IsUnmadeAt size n (pages n)
 
--- A disk was only asked, and read: it holds what it held, no page write was asked for, and an error comes
--- only where its count of faults rose.
+-- A disk was only asked, and read: it holds what it held, no page write was asked for, so none failed, and an
+-- error comes only where its count of faults rose.
 pub record OnlyAsks {D T E : Type 0} (m : Meaning D) (old new : D) (result : Result T E) : Type 0 where
   pub content : KeepsContent m old new
   pub cause : IsErr result → Rose (m.faults old) (m.faults new)
   pub steady : OnOk result (m.faults new ≡ m.faults old)
+  pub none_failed : FailsNoWrite m old new
 
 -- where page 0 is not zero, it alone was read, and once at most
 abbrev pub ReadsHead : {D : Type 0} → Meaning D → D → D → ℕ → Type 0
@@ -51,6 +52,7 @@ pub record HasTested {D : Type 0} (m : Meaning D) (old now : D) (size pages n : 
   pub has : HasPages m now size pages
   pub content : KeepsContent m old now
   pub steady : m.faults now ≡ m.faults old
+  pub none_failed : FailsNoWrite m old now
   pub unmade : (image : Image) → m.held old ≡ Some image → (k : ℕ) → 1 ≤ k → k < n
       → IsUnmadeAt size k (page_at size image k)
 

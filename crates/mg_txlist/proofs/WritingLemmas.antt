@@ -111,10 +111,11 @@ pub no_fault : (fault : SpaceFault) (P : Type 0)
     → ◌≡◌ {A = Result (Unit {0}) SpaceFault} (Ok tt) (Err fault) → P
 no_fault fault P is = absurd cc
 
-both_same : (a b c d : ℕ) → a ≡ c → b ≡ d → ◌≡◌ {A = ℕ × ℕ} (a, b) (c, d)
-both_same a b c d first second =
-    subst (λ (x : ℕ). ◌≡◌ {A = ℕ × ℕ} (a, b) (x, d)) first
-    (subst (λ (y : ℕ). ◌≡◌ {A = ℕ × ℕ} (a, b) (a, y)) second refl)
+all_same : (a b c d e f : ℕ) → a ≡ d → b ≡ e → c ≡ f → ◌≡◌ {A = ℕ × ℕ × ℕ} (a, b, c) (d, e, f)
+all_same a b c d e f first second third =
+    subst (λ (x : ℕ). ◌≡◌ {A = ℕ × ℕ × ℕ} (a, b, c) (x, e, f)) first
+    (subst (λ (y : ℕ). ◌≡◌ {A = ℕ × ℕ × ℕ} (a, b, c) (a, y, f)) second
+    (subst (λ (z : ℕ). ◌≡◌ {A = ℕ × ℕ × ℕ} (a, b, c) (a, b, z)) third refl))
 
 -- page writes that went on have met no fault
 pub written_online : {D L : Type 0} (m : Meaning D) (a b : Pool D L) → HasWritten m a b → b.offline ≡ None
@@ -122,7 +123,8 @@ pub written_online : {D L : Type 0} (m : Meaning D) (a b : Pool D L) → HasWrit
 written_online m a b run online = (
   sym run.offline ∙ online,
   online,
-  both_same b.faults (m.faults b.disk) a.faults (m.faults a.disk) run.faults run.steady,
+  all_same b.faults (m.faults b.disk) (m.failed_writes b.disk) a.faults (m.faults a.disk) (m.failed_writes a.disk) run.faults run.steady
+      run.none_failed,
 )
 
 counts_after : {D L : Type 0} (m : Meaning D) (a b c : Pool D L) (n : ℕ) → HasWritten m a b
@@ -138,8 +140,12 @@ pub told_on : {D L : Type 0} (m : Meaning D) (a b c : Pool D L) (fault : PoolFau
     → b.offline ≡ None → OnlyWrites {T = Unit {0}} (Err fault)
     → TellsFault {T = Unit {0}} m b c (Err fault) → TellsFault {T = Unit {0}} m a c (Err fault)
 told_on m a b c (DiskRead n) run online own tells = absurd own
-told_on m a b c (DiskWrite n) run online own tells =
-    (sym run.offline ∙ tells.0, tells.1, counts_after m a b c n run tells.2)
+told_on m a b c (DiskWrite n) run online own tells = (
+  sym run.offline ∙ tells.0,
+  tells.1,
+  counts_after m a b c n run tells.2,
+  subst (λ (k : ℕ). Rose k (m.failed_writes c.disk)) run.none_failed tells.3,
+)
 told_on m a b c (Offline n) run online own tells =
     let same : Some n ≡ None = sym tells.0 ∙ online in absurd cc
 told_on m a b c (Absent n) run online own tells = absurd own

@@ -18,7 +18,7 @@ returns-in-Ok-clause-undoes g c = λ o h stands.
 pub returns-in-Ok-clause-frames : goal.returns-in-Ok-clause-frames
 returns-in-Ok-clause-frames g c = λ before first.
     frames_first g.R.Records.meaning before c.args.r.now c.undo_mark.new.self c.args.t.0
-    (Some c.args.refusal) None (λ quiet. refl) first
+    (Some c.args.refusal) None (λ k quiet. refl) first
     (frames_changes g.R.Records.meaning c.args.r.now c.undo_mark.new.self c.args.t.0 None
     c.in-Ok.ensures.leaves c.in-Ok.ensures.told)
 

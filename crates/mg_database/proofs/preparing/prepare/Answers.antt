@@ -25,7 +25,7 @@ make_if-requires-clause-room g c = subst (λ (x : Geometry). new_pages ≤ x.lim
 pub returns-in-Ok-make_if : goal.returns-in-Ok-make_if
 returns-in-Ok-make_if g c = prepared g.D.Disk.meaning c.args.disk c.ask.new.disk c.args.limit
     c.in-Ok.surveyed c.in-Ok-new.store c.make_if.new.store c.in-Ok.ensures.asks.content
-    c.ask.ensures.same c.in-Ok.ensures.asks.steady c.in-Ok.ensures.survey c.in-Ok.ensures.reads
+    c.ask.ensures.same c.in-Ok.ensures.asks.steady c.in-Ok.ensures.asks.none_failed c.in-Ok.ensures.survey c.in-Ok.ensures.reads
     c.in-Ok-new.ensures.pool c.in-Ok-new.ensures.disk
     c.in-Ok-new.ensures.geometry (empty_clean c.in-Ok-new.store c.in-Ok-new.ensures.dirty)
     c.in-Ok-new.ensures.online c.in-Ok.surveyed.unmade refl c.in-Ok-make_if.ensures
@@ -33,7 +33,7 @@ returns-in-Ok-make_if g c = prepared g.D.Disk.meaning c.args.disk c.ask.new.disk
 pub returns-in-Err-make_if : goal.returns-in-Err-make_if
 returns-in-Err-make_if g c = not_prepared_as g.D.Disk.meaning c.args.disk c.ask.new.disk c.args.limit
     c.in-Ok.surveyed c.in-Ok-new.store c.make_if.new.store c.in-Ok.ensures.asks.content
-    c.ask.ensures.same c.in-Ok.ensures.asks.steady c.in-Ok.ensures.survey c.in-Ok.ensures.reads
+    c.ask.ensures.same c.in-Ok.ensures.asks.steady c.in-Ok.ensures.asks.none_failed c.in-Ok.ensures.survey c.in-Ok.ensures.reads
     c.in-Ok-new.ensures.pool c.in-Ok-new.ensures.disk
     c.in-Ok-new.ensures.geometry (empty_clean c.in-Ok-new.store c.in-Ok-new.ensures.dirty)
     c.in-Ok-new.ensures.online c.in-Ok.surveyed.unmade c.in-Err-make_if.fault c.into_disk.result

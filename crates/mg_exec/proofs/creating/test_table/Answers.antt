@@ -108,7 +108,7 @@ returns-in-Ok-clause-frames g c =
     frames_quiet g.R.Records.meaning c.args.r.now c.table.new.self c.args.t.0 (Some TableExists) tt
     (frames_reads_nothing g.R.Records.meaning c.args.r.now c.table.new.self c.args.t.0 None
     c.in-Ok.ensures.reads c.in-Ok.ensures.told)
-    (λ quiet. refl)
+    (λ k quiet. refl)
 
 pub returns-clause-frames : goal.returns-clause-frames
 returns-clause-frames g c =

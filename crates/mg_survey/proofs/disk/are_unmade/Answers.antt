@@ -8,7 +8,7 @@ pub loop-n-preserved : goal.loop-n-preserved
 loop-n-preserved g c = tested_more g.D.Disk.meaning g.met.D.Disk.counts_now c.args.disk.now c.loop-n.disk
     c.is_unmade_at.new.disk c.args.size c.args.pages c.loop-n.n c.loop-n.invariant
     c.is_unmade_at.ensures.has c.is_unmade_at.ensures.asks.content
-    c.in_ok-is_unmade_at.ensures.asks.steady
+    c.in_ok-is_unmade_at.ensures.asks.steady c.is_unmade_at.ensures.asks.none_failed
     (λ image held. (c.in_ok-is_unmade_at.ensures.unmade image held).0 c.if-not-branch.false)
 
 pub returns-clause-unmade : goal.returns-clause-unmade
@@ -34,7 +34,7 @@ returns-in_err-is_unmade_at-clause-has g c = c.is_unmade_at.ensures.has
 pub returns-in_err-is_unmade_at-clause-asks : goal.returns-in_err-is_unmade_at-clause-asks
 returns-in_err-is_unmade_at-clause-asks g c = asks_up g.D.Disk.meaning g.met.D.Disk.counts_now c.args.disk.now
     c.loop-n.disk
-    c.is_unmade_at.new.disk c.loop-n.invariant.content c.loop-n.invariant.steady c.from_residual.result
+    c.is_unmade_at.new.disk c.loop-n.invariant.content c.loop-n.invariant.steady c.loop-n.invariant.none_failed c.from_residual.result
     c.in_err-is_unmade_at.field-0.0 c.from_residual.ensures.0 c.in_err-is_unmade_at.ensures.asks
 
 pub returns-then-not-branch-clause-has : goal.returns-then-not-branch-clause-has
@@ -45,6 +45,7 @@ returns-then-not-branch-clause-asks g c = asks_answered g.D.Disk.meaning c.args.
     (content_on g.D.Disk.meaning g.met.D.Disk.counts_now c.args.disk.now c.loop-n.disk c.is_unmade_at.new.disk
     c.loop-n.invariant.content c.is_unmade_at.ensures.asks.content)
     (c.in_ok-is_unmade_at.ensures.asks.steady ∙ c.loop-n.invariant.steady)
+    (c.is_unmade_at.ensures.asks.none_failed ∙ c.loop-n.invariant.none_failed)
 
 pub returns-then-not-branch-clause-unmade : goal.returns-then-not-branch-clause-unmade
 returns-then-not-branch-clause-unmade g c = λ image held. (
@@ -60,4 +61,4 @@ returns-clause-has g c = c.loop-n.invariant.has
 
 pub returns-clause-asks : goal.returns-clause-asks
 returns-clause-asks g c = asks_answered g.D.Disk.meaning c.args.disk.now c.loop-n.disk true c.loop-n.invariant.content
-    c.loop-n.invariant.steady
+    c.loop-n.invariant.steady c.loop-n.invariant.none_failed

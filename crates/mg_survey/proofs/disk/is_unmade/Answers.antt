@@ -20,7 +20,7 @@ returns-then-pages-eq0-clause-has g c = c.requires.has
 pub returns-then-pages-eq0-clause-asks : goal.returns-then-pages-eq0-clause-asks
 returns-then-pages-eq0-clause-asks g c = asks_answered g.D.Disk.meaning c.args.disk.now c.args.disk.now true
     (same_content g.D.Disk.meaning c.args.disk.now)
-    refl
+    refl refl
 
 pub is_unmade_at-requires-clause-has : goal.is_unmade_at-requires-clause-has
 is_unmade_at-requires-clause-has g c = c.requires.has
@@ -44,7 +44,7 @@ returns-then-not-branch-clause-has g c = c.is_unmade_at.ensures.has
 
 pub returns-then-not-branch-clause-asks : goal.returns-then-not-branch-clause-asks
 returns-then-not-branch-clause-asks g c = asks_answered g.D.Disk.meaning c.args.disk.now c.is_unmade_at.new.disk false
-    c.is_unmade_at.ensures.asks.content c.in_ok-is_unmade_at.ensures.asks.steady
+    c.is_unmade_at.ensures.asks.content c.in_ok-is_unmade_at.ensures.asks.steady c.is_unmade_at.ensures.asks.none_failed
 
 pub returns-then-not-branch-clause-unmade : goal.returns-then-not-branch-clause-unmade
 returns-then-not-branch-clause-unmade g c = λ image held. (
@@ -68,7 +68,7 @@ returns-clause-has g c = c.are_unmade.ensures.has
 pub returns-clause-asks : goal.returns-clause-asks
 returns-clause-asks g c = asks_over g.D.Disk.meaning g.met.D.Disk.counts_now c.args.disk.now c.is_unmade_at.new.disk
     c.are_unmade.new.disk c.is_unmade_at.ensures.asks.content c.in_ok-is_unmade_at.ensures.asks.steady
-    c.are_unmade.result c.are_unmade.ensures.asks
+    c.is_unmade_at.ensures.asks.none_failed c.are_unmade.result c.are_unmade.ensures.asks
 
 pub returns-clause-alone : goal.returns-clause-alone
 returns-clause-alone g c = λ image held other. absurd

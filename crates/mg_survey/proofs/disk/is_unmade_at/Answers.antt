@@ -9,7 +9,7 @@ returns-in_err-read-clause-has g c = has_still g.D.Disk.meaning c.args.disk.now 
 pub returns-in_err-read-clause-asks : goal.returns-in_err-read-clause-asks
 returns-in_err-read-clause-asks g c = asks_calm g.D.Disk.meaning c.args.disk.now c.read.new.self
     c.from_residual.result
-    c.in_err-read.field-0.0 c.from_residual.ensures.0 c.in_err-read.ensures.calm
+    c.in_err-read.field-0.0 c.from_residual.ensures.0 c.in_err-read.ensures.calm c.read.ensures.no_failed_write
 
 pub returns-in_err-read-clause-alone : goal.returns-in_err-read-clause-alone
 returns-in_err-read-clause-alone g c = c.read.ensures.reads
@@ -21,8 +21,8 @@ returns-clause-has g c = has_still g.D.Disk.meaning c.args.disk.now c.read.new.s
 
 pub returns-clause-asks : goal.returns-clause-asks
 returns-clause-asks g c = asks_answered g.D.Disk.meaning c.args.disk.now c.read.new.self c.is_unmade_page.result
-    (calm_content g.D.Disk.meaning c.args.disk.now c.read.new.self c.in_ok-read.ensures.calm)
-    c.in_ok-read.ensures.calm.keeps.steady
+    (calm_content g.D.Disk.meaning c.args.disk.now c.read.new.self c.in_ok-read.ensures.calm c.read.ensures.no_failed_write)
+    c.in_ok-read.ensures.calm.keeps.steady c.read.ensures.no_failed_write
 
 pub returns-clause-alone : goal.returns-clause-alone
 returns-clause-alone g c = c.read.ensures.reads

@@ -39,14 +39,15 @@ returns-clause-same g c =
 pub returns-in-Err-clause-asks : goal.returns-in-Err-clause-asks
 returns-in-Err-clause-asks g c = asks_calm g.D.Disk.meaning c.args.disk.now c.page_size.new.self (Err
     c.in-Err.fault) c.in-Err.fault refl
-    c.in-Err.ensures.calm
+    c.in-Err.ensures.calm c.page_size.ensures.no_failed_write
 
 pub returns-in-Err-pages-clause-asks : goal.returns-in-Err-pages-clause-asks
 returns-in-Err-pages-clause-asks g c = calm_up g.D.Disk.meaning g.met.D.Disk.counts_now c.args.disk.now
     c.page_size.new.self
-    c.pages.new.self (calm_content g.D.Disk.meaning c.args.disk.now c.page_size.new.self c.in-Ok.ensures.calm)
-    c.in-Ok.ensures.calm.keeps.steady (Err c.in-Err-pages.fault) c.in-Err-pages.fault refl
-    c.in-Err-pages.ensures.calm
+    c.pages.new.self (calm_content g.D.Disk.meaning c.args.disk.now c.page_size.new.self c.in-Ok.ensures.calm
+    c.page_size.ensures.no_failed_write)
+    c.in-Ok.ensures.calm.keeps.steady c.page_size.ensures.no_failed_write (Err c.in-Err-pages.fault) c.in-Err-pages.fault refl
+    c.in-Err-pages.ensures.calm c.pages.ensures.no_failed_write
 
 pub is_unmade-requires-clause-has : goal.is_unmade-requires-clause-has
 is_unmade-requires-clause-has g c = has_pages g.D.Disk.meaning c.page_size.new.self c.pages.new.self
@@ -60,9 +61,12 @@ pub returns-in-Err-is_unmade-clause-asks : goal.returns-in-Err-is_unmade-clause-
 returns-in-Err-is_unmade-clause-asks g c = asks_up g.D.Disk.meaning g.met.D.Disk.counts_now c.args.disk.now
     c.pages.new.self
     c.is_unmade.new.disk (content_on g.D.Disk.meaning g.met.D.Disk.counts_now c.args.disk.now c.page_size.new.self
-    c.pages.new.self (calm_content g.D.Disk.meaning c.args.disk.now c.page_size.new.self c.in-Ok.ensures.calm)
-    (calm_content g.D.Disk.meaning c.page_size.new.self c.pages.new.self c.in-Ok-pages.ensures.calm))
-    (c.in-Ok-pages.ensures.calm.keeps.steady ∙ c.in-Ok.ensures.calm.keeps.steady) (Err
+    c.pages.new.self (calm_content g.D.Disk.meaning c.args.disk.now c.page_size.new.self c.in-Ok.ensures.calm
+    c.page_size.ensures.no_failed_write)
+    (calm_content g.D.Disk.meaning c.page_size.new.self c.pages.new.self c.in-Ok-pages.ensures.calm
+    c.pages.ensures.no_failed_write))
+    (c.in-Ok-pages.ensures.calm.keeps.steady ∙ c.in-Ok.ensures.calm.keeps.steady)
+    (c.pages.ensures.no_failed_write ∙ c.page_size.ensures.no_failed_write) (Err
     c.in-Err-is_unmade.fault) c.in-Err-is_unmade.fault refl
     c.in-Err-is_unmade.ensures.asks
 
@@ -70,11 +74,14 @@ pub returns-clause-asks : goal.returns-clause-asks
 returns-clause-asks g c = asks_answered g.D.Disk.meaning c.args.disk.now c.is_unmade.new.disk _
     (content_on g.D.Disk.meaning g.met.D.Disk.counts_now c.args.disk.now c.pages.new.self c.is_unmade.new.disk
     (content_on g.D.Disk.meaning g.met.D.Disk.counts_now c.args.disk.now c.page_size.new.self
-    c.pages.new.self (calm_content g.D.Disk.meaning c.args.disk.now c.page_size.new.self c.in-Ok.ensures.calm)
-    (calm_content g.D.Disk.meaning c.page_size.new.self c.pages.new.self c.in-Ok-pages.ensures.calm))
+    c.pages.new.self (calm_content g.D.Disk.meaning c.args.disk.now c.page_size.new.self c.in-Ok.ensures.calm
+    c.page_size.ensures.no_failed_write)
+    (calm_content g.D.Disk.meaning c.page_size.new.self c.pages.new.self c.in-Ok-pages.ensures.calm
+    c.pages.ensures.no_failed_write))
     c.is_unmade.ensures.asks.content)
     (c.in-Ok-is_unmade.ensures.asks.steady ∙ (c.in-Ok-pages.ensures.calm.keeps.steady ∙
     c.in-Ok.ensures.calm.keeps.steady))
+    (c.is_unmade.ensures.asks.none_failed ∙ (c.pages.ensures.no_failed_write ∙ c.page_size.ensures.no_failed_write))
 
 pub returns-clause-survey : goal.returns-clause-survey
 returns-clause-survey g c = surveyed g.D.Disk.meaning g.met.D.Disk.counted c.args.disk.now c.pages.new.self

@@ -18,16 +18,26 @@ counts_since : {D L : Type 0} (m : Meaning D) (a b c : Pool D L) (n : ℕ) → S
     → Counts m b c n → Counts m a c n
 counts_since m a b c n stays counts = (
   counts.0,
-  counts.1 ∙ ap (λ (both : ℕ × ℕ). min (both.0 + 1) (2 ^ 64 - 1)) stays.2,
-  subst (λ (x : ℕ). Rose x (m.faults c.disk)) (ap (λ (both : ℕ × ℕ). both.1) stays.2) counts.2,
+  counts.1 ∙ ap (λ (c : ℕ × ℕ × ℕ). min (c.0 + 1) (2 ^ 64 - 1)) stays.2,
+  subst (λ (x : ℕ). Rose x (m.faults c.disk)) (ap (λ (c : ℕ × ℕ × ℕ). c.1) stays.2) counts.2,
 )
 
 -- a call after others that answered tells its fault for all of them
 told_since : {D L : Type 0} (m : Meaning D) (a b c : Pool D L) (result : Result (Unit {0}) PoolFault)
     → StaysOnline m a b → TellsFault m b c result → TellsFault m a c result
 told_since m a b c (Ok x) stays tells = (stays.0, tells.1, tells.2 ∙ stays.2)
-told_since m a b c (Err (DiskRead n)) stays tells = (stays.0, tells.1, counts_since m a b c n stays tells.2)
-told_since m a b c (Err (DiskWrite n)) stays tells = (stays.0, tells.1, counts_since m a b c n stays tells.2)
+told_since m a b c (Err (DiskRead n)) stays tells = (
+  stays.0,
+  tells.1,
+  counts_since m a b c n stays tells.2,
+  tells.3 ∙ ap (λ (c : ℕ × ℕ × ℕ). c.2) stays.2,
+)
+told_since m a b c (Err (DiskWrite n)) stays tells = (
+  stays.0,
+  tells.1,
+  counts_since m a b c n stays tells.2,
+  subst (λ (x : ℕ). Rose x (m.failed_writes c.disk)) (ap (λ (c : ℕ × ℕ × ℕ). c.2) stays.2) tells.3,
+)
 told_since m a b c (Err (Offline n)) stays tells =
     (stays.0 ∙ (sym stays.1 ∙ tells.0), tells.1, tells.2 ∙ stays.2)
 told_since m a b c (Err (Absent n)) stays tells = (stays.0, tells.1, tells.2 ∙ stays.2)

@@ -10,7 +10,8 @@ returns-in-Err g c = unprepared c.in-Err.fault c.open_refusal.ensures c.in-Err.e
 pub returns-in-Ok-load : goal.returns-in-Ok-load
 returns-in-Ok-load g c = opened g.D.Disk.meaning c.args.disk c.args.limit c.in-Ok.store c.load.new.store
     c.in-Ok-load.loaded c.new.result c.new-in-Ok-load.result c.new-in-Ok-load-2.result c.in-Ok.ensures c.load.ensures.keeps
-    c.in-Ok-load.ensures.lawful (ap (λ (counts : ℕ × ℕ). counts.1) c.in-Ok-load.ensures.fault.2)
+    c.in-Ok-load.ensures.lawful (ap (λ (counts : ℕ × ℕ × ℕ). counts.1) c.in-Ok-load.ensures.fault.2)
+    (ap (λ (counts : ℕ × ℕ × ℕ). counts.2) c.in-Ok-load.ensures.fault.2)
     c.in-Ok-load.ensures.reads c.new.ensures c.new-in-Ok-load.ensures c.new-in-Ok-load-2.ensures
     c.in-Ok-load.ensures.says
 

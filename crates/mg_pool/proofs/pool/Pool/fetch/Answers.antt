@@ -62,7 +62,7 @@ returns-in-Err g c =
     let new = c.read_fault.new.self in
     let disk = c.pages.new.self in
     let unread = c.in-Err.ensures.unread in
-    let left = leaves_pages m old disk new.faults new c.args.page.0 c.read_fault.ensures.same c.requires.pool (quiet_call m old.disk disk _ c.in-Err.ensures.calm) (reads_at_most m old.disk disk c.args.page.0 unread) (λ there. unread) in
+    let left = leaves_pages m old disk new.faults new c.args.page.0 c.read_fault.ensures.same c.requires.pool (quiet_call m old.disk disk _ c.in-Err.ensures.calm c.in-Err.ensures.no_failed_write) (reads_at_most m old.disk disk c.args.page.0 unread) (λ there. unread) in
     record {
       pool = left.pool;
       geometry = left.geometry;
@@ -71,7 +71,7 @@ returns-in-Err g c =
       resident = tt;
       same = left.same;
       offline = λ n is. absurd (read_no_offline c.read_fault.result new.faults n c.read_fault.ensures.fault is);
-      fault = tells_read (Unit {0}) m old disk new c.read_fault.result c.read_fault.ensures.same c.read_fault.ensures.count c.read_fault.ensures.fault c.in_ok-online.ensures.fault.0 (rose_now m old.disk disk c.in-Err.field-0 c.in-Err.ensures.calm);
+      fault = tells_read (Unit {0}) m old disk new c.read_fault.result c.read_fault.ensures.same c.read_fault.ensures.count c.read_fault.ensures.fault c.in_ok-online.ensures.fault.0 (rose_now m old.disk disk c.in-Err.field-0 c.in-Err.ensures.calm) c.in-Err.ensures.no_failed_write;
       present = tt;
       absent = λ k is. absurd (read_no_absent c.read_fault.result new.faults k c.read_fault.ensures.fault is);
       never_written = λ k is. read_no_write c.read_fault.result new.faults k c.read_fault.ensures.fault is;
@@ -86,7 +86,7 @@ returns-then-page-pages g c =
     let disk = c.pages.new.self in
     let calm = c.in-Ok.ensures.calm in
     let unread = c.in-Ok.ensures.unread in
-    let left = leaves_pages m old disk old.faults (record old { disk = disk }) c.args.page.0 refl c.requires.pool (quiet_call m old.disk disk _ calm) (reads_at_most m old.disk disk c.args.page.0 unread) (λ there. unread) in
+    let left = leaves_pages m old disk old.faults (record old { disk = disk }) c.args.page.0 refl c.requires.pool (quiet_call m old.disk disk _ calm c.in-Ok.ensures.no_failed_write) (reads_at_most m old.disk disk c.args.page.0 unread) (λ there. unread) in
     let out = shown_so old c.args.page.0 c.bytes.result c.is_some.result false c.bytes.ensures.resident c.is_some.ensures c.if-is_some.false in
     record {
       pool = left.pool;
@@ -96,7 +96,7 @@ returns-then-page-pages g c =
       resident = tt;
       same = left.same;
       offline = λ n is. absurd (absent_no_offline c.in-Ok.pages n is);
-      fault = stays_online m old disk c.in_ok-online.ensures.fault.0 calm.keeps.steady;
+      fault = stays_online m old disk c.in_ok-online.ensures.fault.0 calm.keeps.steady c.in-Ok.ensures.no_failed_write;
       present = tt;
       absent = λ k is.
           let told = absent_same c.in-Ok.pages k is in
@@ -113,7 +113,7 @@ returns-in-Err-vec g c =
     let disk = c.pages.new.self in
     let calm = c.in-Ok.ensures.calm in
     let unread = c.in-Ok.ensures.unread in
-    let left = leaves_pages m old disk old.faults (record old { disk = disk }) c.args.page.0 refl c.requires.pool (quiet_call m old.disk disk _ calm) (reads_at_most m old.disk disk c.args.page.0 unread) (λ there. unread) in
+    let left = leaves_pages m old disk old.faults (record old { disk = disk }) c.args.page.0 refl c.requires.pool (quiet_call m old.disk disk _ calm c.in-Ok.ensures.no_failed_write) (reads_at_most m old.disk disk c.args.page.0 unread) (λ there. unread) in
     record {
       pool = left.pool;
       geometry = refl;
@@ -122,7 +122,7 @@ returns-in-Err-vec g c =
       resident = tt;
       same = left.same;
       offline = λ n is. absurd (memory_no_offline n is);
-      fault = stays_online m old disk c.in_ok-online.ensures.fault.0 calm.keeps.steady;
+      fault = stays_online m old disk c.in_ok-online.ensures.fault.0 calm.keeps.steady c.in-Ok.ensures.no_failed_write;
       present = tt;
       absent = λ k is. absurd (memory_no_absent k is);
       never_written = λ k is. memory_no_write k is;
@@ -140,7 +140,7 @@ returns-in-Err-read_into g c =
     let calm = c.in-Ok.ensures.calm in
     let read = c.in-Err-read_into.ensures.calm in
     let out = shown_so old c.args.page.0 c.bytes.result c.is_some.result false c.bytes.ensures.resident c.is_some.ensures c.if-is_some.false in
-    let left = leaves_pages m old disk new.faults new c.args.page.0 fault.ensures.same c.requires.pool (quiet_then m g.met.D.Disk.counts_now old.disk c.pages.new.self disk (quiet_call m old.disk c.pages.new.self _ calm) (quiet_call m c.pages.new.self disk _ read)) (reads_then m old.disk c.pages.new.self disk c.args.page.0 c.in-Ok.ensures.unread c.in-Err-read_into.ensures.reads) (λ there. absurd (both_ways _ out there)) in
+    let left = leaves_pages m old disk new.faults new c.args.page.0 fault.ensures.same c.requires.pool (quiet_then m g.met.D.Disk.counts_now old.disk c.pages.new.self disk (quiet_call m old.disk c.pages.new.self _ calm c.in-Ok.ensures.no_failed_write) (quiet_call m c.pages.new.self disk _ read c.in-Err-read_into.ensures.no_failed_write)) (reads_then m old.disk c.pages.new.self disk c.args.page.0 c.in-Ok.ensures.unread c.in-Err-read_into.ensures.reads) (λ there. absurd (both_ways _ out there)) in
     record {
       pool = left.pool;
       geometry = left.geometry;
@@ -149,7 +149,7 @@ returns-in-Err-read_into g c =
       resident = tt;
       same = left.same;
       offline = λ n is. absurd (read_no_offline fault.result new.faults n fault.ensures.fault is);
-      fault = tells_read (Unit {0}) m old disk new fault.result fault.ensures.same fault.ensures.count fault.ensures.fault c.in_ok-online.ensures.fault.0 (rose_then (m.faults old.disk) (m.faults c.pages.new.self) (m.faults disk) calm.keeps.never_falls (rose_now m c.pages.new.self disk c.in-Err-read_into.field-0 read));
+      fault = tells_read (Unit {0}) m old disk new fault.result fault.ensures.same fault.ensures.count fault.ensures.fault c.in_ok-online.ensures.fault.0 (rose_then (m.faults old.disk) (m.faults c.pages.new.self) (m.faults disk) calm.keeps.never_falls (rose_now m c.pages.new.self disk c.in-Err-read_into.field-0 read)) (c.in-Err-read_into.ensures.no_failed_write ∙ c.in-Ok.ensures.no_failed_write);
       present = tt;
       absent = λ k is. absurd (read_no_absent fault.result new.faults k fault.ensures.fault is);
       never_written = λ k is. read_no_write fault.result new.faults k fault.ensures.fault is;
@@ -209,6 +209,7 @@ returns-in-Ok-put-clause-offline g c = λ n is. absurd (ok_no_err _ _ is)
 
 pub returns-in-Ok-put-clause-fault : goal.returns-in-Ok-put-clause-fault
 returns-in-Ok-put-clause-fault g c = stays_online g.D.Disk.meaning c.args.self.now c.read_into.new.disk c.in_ok-online.ensures.fault.0 (c.in-Ok-read_into.ensures.calm.keeps.steady ∙ c.in-Ok.ensures.calm.keeps.steady)
+    (c.in-Ok-read_into.ensures.no_failed_write ∙ c.in-Ok.ensures.no_failed_write)
 
 pub returns-in-Ok-put-clause-present : goal.returns-in-Ok-put-clause-present
 returns-in-Ok-put-clause-present g c = inr (on_disk_calm g.D.Disk.meaning c.pages.new.self c.read_into.new.disk _ c.in-Ok-read_into.ensures.calm c.args.page.0 (c.in-Ok.pages, c.in-Ok.ensures.count, c.if-page-pages.false))
@@ -222,7 +223,7 @@ returns-in-Ok-put-clause-never_written g c = λ k is. ok_no_err _ _ is
 pub returns-in-Ok-put-clause-disk : goal.returns-in-Ok-put-clause-disk
 returns-in-Ok-put-clause-disk g c =
     let m = g.D.Disk.meaning in
-    (quiet_then m g.met.D.Disk.counts_now c.args.self.now.disk c.pages.new.self c.read_into.new.disk (quiet_call m c.args.self.now.disk c.pages.new.self _ c.in-Ok.ensures.calm) (quiet_call m c.pages.new.self c.read_into.new.disk _ c.in-Ok-read_into.ensures.calm)).content
+    (quiet_then m g.met.D.Disk.counts_now c.args.self.now.disk c.pages.new.self c.read_into.new.disk (quiet_call m c.args.self.now.disk c.pages.new.self _ c.in-Ok.ensures.calm c.in-Ok.ensures.no_failed_write) (quiet_call m c.pages.new.self c.read_into.new.disk _ c.in-Ok-read_into.ensures.calm c.in-Ok-read_into.ensures.no_failed_write)).content
 
 pub returns-in-Ok-put-clause-reads : goal.returns-in-Ok-put-clause-reads
 returns-in-Ok-put-clause-reads g c =
@@ -242,7 +243,7 @@ returns-in-Err-put g c =
     let calm = c.in-Ok.ensures.calm in
     let read = c.in-Ok-read_into.ensures.calm in
     let out = shown_so old c.args.page.0 c.bytes.result c.is_some.result false c.bytes.ensures.resident c.is_some.ensures c.if-is_some.false in
-    let kept = leaves_pages m old disk old.faults (record old { disk = disk }) c.args.page.0 refl c.requires.pool (quiet_then m g.met.D.Disk.counts_now old.disk c.pages.new.self disk (quiet_call m old.disk c.pages.new.self _ calm) (quiet_call m c.pages.new.self disk _ read)) (reads_then m old.disk c.pages.new.self disk c.args.page.0 c.in-Ok.ensures.unread c.in-Ok-read_into.ensures.reads) (λ there. absurd (both_ways _ out there)) in
+    let kept = leaves_pages m old disk old.faults (record old { disk = disk }) c.args.page.0 refl c.requires.pool (quiet_then m g.met.D.Disk.counts_now old.disk c.pages.new.self disk (quiet_call m old.disk c.pages.new.self _ calm c.in-Ok.ensures.no_failed_write) (quiet_call m c.pages.new.self disk _ read c.in-Ok-read_into.ensures.no_failed_write)) (reads_then m old.disk c.pages.new.self disk c.args.page.0 c.in-Ok.ensures.unread c.in-Ok-read_into.ensures.reads) (λ there. absurd (both_ways _ out there)) in
     let left = leaves_cleaned m old (record old { disk = disk }) (record old { disk = disk; clean = c.put.new.self }) c.args.page.0 refl (keeps_same old.clean c.put.new.self c.in-Err-put.ensures.same) kept in
     record {
       pool = left.pool;
@@ -252,7 +253,7 @@ returns-in-Err-put g c =
       resident = tt;
       same = left.same;
       offline = λ n is. absurd (memory_no_offline n is);
-      fault = stays_online m old disk c.in_ok-online.ensures.fault.0 (read.keeps.steady ∙ calm.keeps.steady);
+      fault = stays_online m old disk c.in_ok-online.ensures.fault.0 (read.keeps.steady ∙ calm.keeps.steady) (c.in-Ok-read_into.ensures.no_failed_write ∙ c.in-Ok.ensures.no_failed_write);
       present = tt;
       absent = λ k is. absurd (memory_no_absent k is);
       never_written = λ k is. memory_no_write k is;

@@ -20,6 +20,7 @@ returns-in-Err g c =
       same = refl;
       asked = writes.asked;
       told = (c.count_fault-faults.result, refl, refl, (sym c.count_fault-faults.ensures.told, c.count_fault-faults.ensures.told ∙ c.count_fault-faults.ensures.count, writes.keeps.cause refl));
+      failed_writes = c.in-Err.ensures.failed_writes.cause refl;
       pool = record {
         size = size_stays m c.args.self.now.disk c.write.new.self _ _ pool.size writes.keeps;
         page_size = pool.page_size;
@@ -43,7 +44,7 @@ returns-in-Err g c =
         same_shown = λ told i j held_i held_j page. shown_failed m c.args.self.now.disk c.write.new.self c.args.self.now.dirty c.args.page c.in-Some.bytes.now _ content c.in-Some.ensures.whole writes i j held_i held_j page;
         contents = λ page dirty. refl;
       };
-      time = time_of_call m c.args.self.now.disk c.write.new.self _ writes.keeps;
+      time = time_of_call m c.args.self.now.disk c.write.new.self _ writes.keeps c.in-Err.ensures.failed_writes.never_falls;
       crash = λ told image held.
           leaves_after m c.args.self.now.disk c.write.new.self c.args.page c.in-Some.bytes.now _ _ writes told
           (λ after now. elim (failed_leaves m g.met.D.Disk.holds c.args.self.now.disk c.write.new.self c.args.page c.in-Some.bytes.now _ writes told image held after now) [
@@ -68,6 +69,7 @@ returns-in-Ok g c =
       offline = refl;
       faults = refl;
       steady = writes.keeps.steady;
+      none_failed = c.in-Ok.ensures.failed_writes.steady;
       tells = writes.keeps.tells;
       taken = c.take_out.ensures.taken;
       asked = writes.asked;
@@ -97,7 +99,7 @@ returns-in-Ok g c =
         kept_below = kept (λ p b. p < c.args.self.now.geometry.limit) (λ told. pool.below c.args.page c.requires.dirty) pool.kept_below;
         within = within_after m c.args.self.now.disk c.write.new.self c.args.page c.in-Some.bytes.now _ writes c.args.self.now.geometry.limit (pool.below c.args.page c.requires.dirty) pool.within;
       };
-      time = time_of_call m c.args.self.now.disk c.write.new.self _ writes.keeps;
+      time = time_of_call m c.args.self.now.disk c.write.new.self _ writes.keeps c.in-Ok.ensures.failed_writes.never_falls;
       crash = λ told image held.
           leaves_after m c.args.self.now.disk c.write.new.self c.args.page c.in-Some.bytes.now _ _ writes told
           (λ after now. inr (let e = held_after m c.args.self.now.disk c.write.new.self c.args.page c.in-Some.bytes.now _ writes image after held now in
