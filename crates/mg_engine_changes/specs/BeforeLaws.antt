@@ -1,13 +1,16 @@
 -- What stands at a key before it is written, by the versions of the record that speaks for it.
-use Rattle.std.proofs.Common.{◌≡◌, ◌≢◌, ◌==◌, ℕ, Bool, true, false, List, [], ◌∷◌, Option, None, Some, refl, sym, ap, ◌∙◌, subst}
-use Rattle.std.specs.Prelude.{if◌then◌else◌}
+use Rattle.std.proofs.Common.{◌≡◌, ◌≢◌, ◌==◌, get_or, ℕ, Bool, true, false, List, [], ◌∷◌, Option, None, Some, refl, sym, ap, ◌∙◌, subst}
+use Rattle.std.specs.Prelude.{if◌then◌else◌, slice_get}
 use Rattle.std.specs.Str.{bytes_eq}
 use Rattle.std.proofs.lemmas.Bool.{eqb-true, false≢true}
 use Rattle.mg_base.specs.declared.numbers.RecId.{RecId}
 use Rattle.mg_base.specs.declared.numbers.TxNo.{TxNo}
 use Rattle.mg_base.specs.declared.transaction.TxState.{TxState}
 use Rattle.mg_base.specs.declared.transaction.TxState.TheVariants.{Active, Committed, Dead, Limbo}
+use Rattle.mg_value.specs.declared.shape.Column.{Column}
+use Rattle.mg_value.specs.declared.shape.Shape.{Shape}
 use Rattle.mg_value.specs.declared.value.Value.{Value}
+use Rattle.mg_value.specs.declared.value.Value.TheVariants.{Null}
 use Rattle.mg_model.specs.declared.change.Change.{Change}
 use Rattle.mg_model.specs.declared.opening.Opening.{Opening}
 use Rattle.mg_model.specs.declared.table.Table.{Table}
@@ -21,10 +24,10 @@ use Rattle.mg_generations.specs.Kept.{StandFor}
 use Rattle.mg_engine_steps.specs.Known.{IsShown, KnowsPages, facts_shown}
 use Rattle.mg_engine_steps.specs.OwnChains.{IsOwnTold, own_told}
 use Rattle.mg_image.specs.declared.entry.Entry.{Entry}
-use Rattle.mg_image.specs.Form.{Pages, Row, packed_form}
+use Rattle.mg_image.specs.Form.{Pages, Row, packed_coding, packed_form}
 use Rattle.mg_image.specs.Held.{told_row}
-use Rattle.mg_image.specs.RecordRules.{Each, EachBack, Facts}
-use Rattle.mg_image.specs.Records.{Chain, Reading, cells_of, newest_of, shown, writer}
+use Rattle.mg_image.specs.RecordRules.{Each, EachBack, Facts, IsVersion, columns_for, erased_from}
+use Rattle.mg_image.specs.Records.{Chain, Reading, cells_of, newest_of, record_key, shown, writer}
 use Rattle.mg_image_overlays.specs.Fronts.{is_dead}
 use Rattle.mg_overlays.specs.Overlays.{left_by, left_state}
 use Rattle.mg_chain.specs.Chains.{takes_version}
@@ -47,6 +50,12 @@ use Rattle.mg_image_overlays.specs.OneTable.{one_table, table_at_stands}
 use Rattle.mg_undo.specs.Machine.{was_given, was_in}
 use Rattle.mg_undo.specs.declared.changes.Was.TheVariants as wases
 use Rattle.mg_version.specs.declared.cell.Version.{Version}
+use Rattle.mg_engine_meaning.specs.Formers.{IsOfKind, MayReturn}
+use Rattle.mg_engine_meaning.specs.PlainTables.{AreFirst}
+use Rattle.mg_rowcode.specs.Faults.{DecodesTo}
+use Rattle.mg_rowcode.specs.Storable.{IsStorable}
+use Rattle.mg_engine_changes.specs.CodeLaws.{first_fits, for_first, index_is}
+use Rattle.mg_engine_changes.specs.ReturnLaws.{kind_at, storable_at}
 use Rattle.mg_engine_changes.specs.Befores.{BeforesAreTold}
 
 -- ---- own changes as what is kept of them
@@ -89,7 +98,7 @@ first_same view t state live rec p takes first = at (newest_of rec (cells_of vie
 module _ (places : PlacesOfReadings) (rows : RowsOfReadings) (size : ℕ) (o : Opening) (h : Entries) (s : Standing)
     (pages : Pages) (knows : KnowsPages size o h s pages) (t : TxNo) (table : Table) (key : Value)
     (active : state_of o h t.0 ≡ Active) (there : IsShown knows.shows.layout table)
-    (other : same_name table.name catalog_name ≡ false) where
+    (other : same_name table.name catalog_name ≡ false) (plain_columns : AreFirst table.shape.columns) where
   abbrev f : Facts
   f = facts_shown size o h s pages knows
 
@@ -223,7 +232,75 @@ module _ (places : PlacesOfReadings) (rows : RowsOfReadings) (size : ℕ) (o : O
               kept_row is_ = let on : told_given its.table e ≡ Some (told_row its.table e.row) = rw is_ refl in
                   on ∙ ap Some (plain_row e.row)
 
+      -- and it may come back
+      its_version : IsVersion packed_coding f its.table (record_key its.table (knows.shows.reading rec)) e
+      its_version = (subst (Each (IsVersion packed_coding f its.table (record_key its.table (knows.shows.reading rec)))) is
+          (knows.shows.sound.records.each rec its.table its.of_table).each).0
+
+      its_shape : its.table.shape ≡ table.shape
+      its_shape = ap (λ (x : Table). x.shape) own_table ∙ there.same.shape
+
+      key_there : get_or e.row table.shape.key Null ≡ key
+      key_there = ap (λ (x : Shape). get_or e.row x.key Null) (sym its_shape) ∙ (its_version.keyed ∙ its.keyed)
+
+      columns_same : (gone : Bool) → columns_for its.table gone ≡ columns_for table gone
+      columns_same true = ap (λ (x : Shape). erased_from x.key 0 x.columns) its_shape
+      columns_same false = ap (λ (x : Shape). x.columns) its_shape
+
+      decoded : (gone : Bool) → e.version.deleted ≡ gone → DecodesTo (columns_for table gone) 1 e.version.body e.row
+      decoded gone d = subst (λ (cs : List Column). DecodesTo cs 1 e.version.body e.row) (columns_same gone) (subst (λ (b : Bool). DecodesTo (columns_for its.table b) 1 e.version.body e.row) d
+          (subst (λ (n : ℕ). DecodesTo (columns_for its.table e.version.deleted) n e.version.body e.row)
+          its_version.format its_version.spelled))
+
+      own_returns : (b : Before) → IsFirst pages (wants s.state s.live Any) rec (Some (placed e.at e.version))
+          → OwnBefore table rec e.version b → MayReturn table.shape key b.was
+      own_returns b first own_ = at e.version.deleted refl own_.was
+        where
+          at : (d : Bool) → e.version.deleted ≡ d → IsWas d table e.version b.was → MayReturn table.shape key b.was
+          at true gone was = subst (MayReturn table.shape key) (sym was) (
+            subst IsStorable key_there (storable_at e.row table.shape.key its_version.storable),
+            subst (IsOfKind (slice_get table.shape.columns table.shape.key)) key_there
+                (kind_at table.shape.key 0 table.shape.columns e.row table.shape.key
+                (first_fits (columns_for table true) e.version.body e.row (for_first table true plain_columns)
+                (decoded true gone))),
+          )
+          at false kept (row, was, gives) = subst (MayReturn table.shape key)
+              (sym (was ∙ ap (λ (x : Row). wases.Row x) (row_is first row kept gives))) (
+                sym (index_is e.row table.shape.key) ∙ key_there,
+                its_version.storable,
+                first_fits (columns_for table false) e.version.body e.row (for_first table false plain_columns)
+                    (decoded false kept),
+              )
+
     -- ---- whose it is
+
+    returned_before : (b : Before) → IsBeforeIn s.state s.live t.0 pages table rec b → MayReturn table.shape key b.was
+    returned_before b before = at (knows.shows.reading rec) refl
+      where
+        found_is : before.newest ≡ placed_if (first_entry (wants s.state s.live Any) (knows.shows.reading rec))
+        found_is = places (cells_of pages) (wants s.state s.live Any) (newest_of rec (cells_of pages rec))
+            before.newest (knows.shows.reading rec) before.first chain_read
+
+        untouched_returns : b.was ≡ wases.Untouched → MayReturn table.shape key b.was
+        untouched_returns none = subst (MayReturn table.shape key) (sym none) tt
+
+        by : (e : Entry) (older : List Entry) → knows.shows.reading rec ≡ e ∷ older
+            → IsFirst pages (wants s.state s.live Any) rec (Some (placed e.at e.version))
+            → (mine : Bool) → (writer e == t.0) ≡ mine → IsBeforeBy mine s.state table rec e.version b
+            → MayReturn table.shape key b.was
+        by e older is first true mine own_ = own_returns e older is mine b first own_
+        by e older is first false off other_ = untouched_returns (ap (λ (x : Before). x.was) other_)
+
+        at : (es : List Entry) → knows.shows.reading rec ≡ es → MayReturn table.shape key b.was
+        at [] is = untouched_returns (ap (λ (x : Before). x.was)
+            (subst (λ (n : Option Placed). IsBeforeOf s.state t.0 table rec n b)
+            (found_is ∙ ap (λ (es : List Entry). placed_if (first_entry (wants s.state s.live Any) es)) is) before.is))
+        at (e ∷ older) is = by e older is
+            (subst (IsFirst pages (wants s.state s.live Any) rec) newest before.first) (writer e == t.0) refl
+            (subst (λ (n : Option Placed). IsBeforeOf s.state t.0 table rec n b) newest before.is)
+          where
+            newest : before.newest ≡ Some (placed e.at e.version)
+            newest = found_is ∙ ap (λ (es : List Entry). placed_if (first_entry (wants s.state s.live Any) es)) is
 
     told_before : (b : Before) → IsBeforeIn s.state s.live t.0 pages table rec b
         → b.was ≡ was_in (own o h t.0) table.name key
@@ -256,11 +333,15 @@ module _ (places : PlacesOfReadings) (rows : RowsOfReadings) (size : ℕ) (o : O
 
 -- by the record that speaks, or none does
 pub befores_are_told : PlacesOfReadings → RowsOfReadings → BeforesAreTold
-befores_are_told places rows size o h s pages knows t table key None before active there other (stand, silent) is =
-    ap (λ (x : Before). x.was) is ∙ sym (none_was (own o h t.0) table.name key
-    ((own_told o h t.0 table.name key [] active stand).has_))
-befores_are_told places rows size o h s pages knows t table key (Some rec) before active there other spoken is =
+befores_are_told places rows size o h s pages knows t table key None before active there other first (stand, silent) is = (
+  ap (λ (x : Before). x.was) is ∙ sym (none_was (own o h t.0) table.name key
+      ((own_told o h t.0 table.name key [] active stand).has_)),
+  subst (MayReturn table.shape key) (sym (ap (λ (x : Before). x.was) is)) tt,
+)
+befores_are_told places rows size o h s pages knows t table key (Some rec) before active there other first spoken is =
     let its : SpeaksFor o h (facts_shown size o h s pages knows) knows.shows.reading table.name key (Some rec) =
     subst (SpeaksFor o h (facts_shown size o h s pages knows) knows.shows.reading table.name key) spoken
-    (knows.shows.versions.speaks table.name key) in
-    told_before places rows size o h s pages knows t table key active there other rec its.0 its.1 before is
+    (knows.shows.versions.speaks table.name key) in (
+      told_before places rows size o h s pages knows t table key active there other first rec its.0 its.1 before is,
+      returned_before places rows size o h s pages knows t table key active there other first rec its.0 its.1 before is,
+    )

@@ -10,6 +10,8 @@ use Rattle.mg_model.specs.Catalog.{catalog_name}
 use Rattle.mg_model.specs.Changes.{same_name}
 use Rattle.mg_model.specs.History.{Entries}
 use Rattle.mg_model.specs.Machine.{own, state_of}
+use Rattle.mg_engine_meaning.specs.Formers.{MayReturn}
+use Rattle.mg_engine_meaning.specs.PlainTables.{AreFirst}
 use Rattle.mg_engine_steps.specs.Known.{IsShown, KnowsPages}
 use Rattle.mg_engine_steps.specs.AnswersLaws.{TellsSpeaker}
 use Rattle.mg_image.specs.Form.{Pages}
@@ -19,11 +21,12 @@ use Rattle.mg_engine_steps.specs.Standing.{Standing}
 use Rattle.mg_undo.specs.Machine.{was_in}
 use Rattle.std.proofs.Common.{false}
 
--- at a key of a table that is not the catalog, by the record that speaks for it
+-- at a key of a table that is not the catalog, and that came with all its columns, by the record that speaks for it; and it
+-- may come back to the table
 abbrev pub BeforesAreTold : Type 0
 BeforesAreTold = (size : ℕ) (o : Opening) (h : Entries) (s : Standing) (pages : Pages)
     (knows : KnowsPages size o h s pages) (t : TxNo) (table : Table) (key : Value) (rec : Option RecId)
     (before : Before) → state_of o h t.0 ≡ Active → IsShown knows.shows.layout table
-    → same_name table.name catalog_name ≡ false → TellsSpeaker size o h s pages knows table.name key rec
+    → same_name table.name catalog_name ≡ false → AreFirst table.shape.columns → TellsSpeaker size o h s pages knows table.name key rec
     → IsBefore s.state s.live t.0 pages table rec before
-    → before.was ≡ was_in (own o h t.0) table.name key
+    → (before.was ≡ was_in (own o h t.0) table.name key) × MayReturn table.shape key before.was

@@ -51,7 +51,7 @@ erased_first key at (c ∷ cs) first = (one (at == key), erased_first key (at + 
     one true = first.0
     one false = first.0
 
-for_first : (table : Table) (deleted : Bool) → AreFirst table.shape.columns → AreFirst (columns_for table deleted)
+pub for_first : (table : Table) (deleted : Bool) → AreFirst table.shape.columns → AreFirst (columns_for table deleted)
 for_first table false first = first
 for_first table true first = erased_first table.shape.key 0 table.shape.columns first
 
@@ -78,9 +78,17 @@ decodes columns body row first fits stands = record {
       (same_length columns row fits)) ∙ append_none row);
 }
 
+-- what a body of such columns gives fits them
+pub first_fits : (columns : List Column) (body : List ℕ) (row : Row) → AreFirst columns → DecodesTo columns 1 body row
+    → RowFits columns row
+first_fits columns body row first it =
+    let fits : RowFits columns it.values = subst (λ (cs : List Column). RowFits cs it.values) (all_columns columns first) it.fits in
+    subst (RowFits columns) (sym (it.whole ∙ (ap (λ (xs : List Value). it.values ++ xs)
+    (none_left (length it.values) (length columns) (same_length columns it.values fits)) ∙ append_none it.values))) fits
+
 -- ---- values by their places
 
-index_is : (xs : List Value) (i : ℕ) → get_or xs i Null ≡ slice_index_or xs i Null
+pub index_is : (xs : List Value) (i : ℕ) → get_or xs i Null ≡ slice_index_or xs i Null
 index_is [] i = refl
 index_is (x ∷ xs) zero = refl
 index_is (x ∷ xs) (suc i) = index_is xs i

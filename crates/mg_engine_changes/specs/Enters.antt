@@ -70,6 +70,8 @@ use Rattle.mg_works.specs.Works.{Working, given_by, given_to, unasked, with_chan
 use Rattle.mg_works.specs.WorksLaws.{with_its, with_others}
 use Rattle.mg_core.specs.declared.parts.Core.{Core}
 use Rattle.mg_core.specs.Putting.{works_kept}
+use Rattle.mg_engine_meaning.specs.Formers.{MayReturn, MayReturnTo}
+use Rattle.mg_engine_changes.specs.WrittenLaws.{first_in, first_named, first_there, kept_tables_stand}
 use Rattle.mg_engine_meaning.specs.PlainTables.{AreFirst, HasPlainTables, IsPlainTable}
 use Rattle.mg_engine_meaning.specs.LawfulLaws.{memory_of, tables_are_seen}
 use Rattle.mg_engine_meaning.specs.Meaning.{Places}
@@ -303,11 +305,17 @@ module _ (speakers : SpeakersAreTold) (befores : BeforesAreTold) (follow : MadeW
   pub was_told : (rec : Option RecId)
       → IsSpeaker (said core.list) core.live (shown core.store.dirty shows.image) table (written_at table write) rec
       → IsBefore (said core.list) core.live t.0 (shown core.store.dirty shows.image) table rec before
-      → before.was ≡ was_in (own o h t.0) table.name (written_at table write)
+      → (before.was ≡ was_in (own o h t.0) table.name (written_at table write))
+      × MayReturn table.shape (written_at table write) before.was
   was_told rec spoken is = befores core.store.geometry.size o h s pages knows t table key rec before is_active there
-      other (tells rec spoken) is
+      other (subst (λ (x : Shape). AreFirst x.columns) there.same.shape plain_its.first) (tells rec spoken) is
 
-  module _ (was_is : before.was ≡ was_in (own o h t.0) table.name (written_at table write)) where
+  -- it is what its own changes have there, and may come back
+  abbrev pub WasTold : Type 0
+  WasTold = (before.was ≡ was_in (own o h t.0) table.name (written_at table write))
+      × MayReturn table.shape (written_at table write) before.was
+
+  module _ (was_is : WasTold) where
     notes : NotesWrite o h t table write s s_now before.was
     notes = record {
       active = is_active;
@@ -328,7 +336,7 @@ module _ (speakers : SpeakersAreTold) (befores : BeforesAreTold) (follow : MadeW
       session = λ u. all_work session_kept refl u;
       undo = ap undo_kept kept_work ∙ sym (ap (λ (x : Option Working).
           after_keep (undo_kept x) table.pointer.0 (written_at table write) before.was) work_is);
-      was_is = was_is;
+      was_is = was_is.0;
       number = number_here;
       other_numbers = number_else;
       numbered = numbered;
@@ -363,9 +371,42 @@ module _ (speakers : SpeakersAreTold) (befores : BeforesAreTold) (follow : MadeW
   NotesIts kept rec = NotesOrDrops (by_table core.directories.dirs) (by_table kept.dirs) table.pointer.0
       (key_bytes (written_at table write)) rec
 
+  -- the table that is kept for the first page has the shape
+  same_shape : (kept : Table) → written_by (work_of core.works t.0) table.pointer.0 ≡ Some kept
+      → kept.shape ≡ table.shape
+  same_shape kept is = sym kept_there.same.shape ∙ (ap (λ (x : Table). x.shape) (one_table packed_form
+      core.store.geometry.size (left_state everyone (said core.list)) pages shows.stands.shows.layout
+      shows.stands.shows.reading shows.stands.shows.sound kept_there.its there.its kept_there.stands there.stands
+      (kept_there.same.name ∙ (named ∙ sym there.same.name))) ∙ there.same.shape)
+    where
+      kept_there : IsShown shows.stands.shows.layout kept
+      kept_there = kept_tables_stand o h s t.0 shows.stands.shows.layout core.catalog.pointer.0 core.works
+          (shows.stands.shows.tables t.0 counts) stands.kept table.pointer.0 kept is
+
+      first : kept.pointer.0 ≡ table.pointer.0
+      first = first_in work.written table.pointer.0 kept
+          (sym (ap (λ (w : Option Working). written_by w table.pointer.0) work_is) ∙ is)
+
+      named : kept.name ≡ table.name
+      named = first_named core.store.geometry.size (left_state everyone (said core.list)) pages
+          shows.stands.shows.layout shows.stands.shows.reading shows.stands.shows.sound table.name table.pointer.0 kept
+          (first_there shows.stands.shows.layout table there) kept_there first
+
+  -- what was may come back to it
+  returns_to : HasNoted core.works t.0 table → MayReturn table.shape (written_at table write) before.was
+      → MayReturnTo (written_by (work_of core.works t.0) table.pointer.0) (written_at table write) before.was
+  returns_to noted returns = at (written_by (work_of core.works t.0) table.pointer.0) refl
+    where
+      at : (x : Option Table) → written_by (work_of core.works t.0) table.pointer.0 ≡ x
+          → MayReturnTo (written_by (work_of core.works t.0) table.pointer.0) (written_at table write) before.was
+      at None none = absurd (false≢true (sym (ap is_some none) ∙ noted))
+      at (Some kept) is = subst (λ (y : Option Table). MayReturnTo y (written_at table write) before.was) (sym is)
+          (subst (λ (x : Shape). MayReturn x (written_at table write) before.was) (sym (same_shape kept is)) returns)
+
   -- the table of the change is kept
-  kept_now : HasNoted core.works t.0 table → KeepsWritten core.catalog.pointer.0 works_now stands.tables
-  kept_now noted = record {
+  kept_now : HasNoted core.works t.0 table → MayReturn table.shape (written_at table write) before.was
+      → KeepsWritten core.catalog.pointer.0 works_now stands.tables
+  kept_now noted returns = record {
     seen = λ u x is. stands.kept.seen u x
         (subst (λ (xs : List Table). IsOneOf xs x) (all_work written_kept refl u) is);
     told = λ u. at u (cases_eq u t.0);
@@ -373,12 +414,14 @@ module _ (speakers : SpeakersAreTold) (befores : BeforesAreTold) (follow : MadeW
     where
       at : (u : ℕ) → (u ≡ t.0) ⊎ (u ≢ t.0) → AreTold core.catalog.pointer.0 (work_of works_now u)
       at u (inl same) = subst (AreTold core.catalog.pointer.0) (sym (ap (work_of works_now) same ∙ kept_work)) (
-        inr (sym (ap (λ (w : Option Working). is_some (written_by w table.pointer.0)) work_is) ∙ noted),
+        inr (subst (λ (w : Option Working). MayReturnTo (written_by w table.pointer.0) (written_at table write) before.was)
+            work_is (returns_to noted returns)),
         subst (AreTold core.catalog.pointer.0) work_is (stands.kept.told t.0),
       )
       at u (inr ne) = subst (AreTold core.catalog.pointer.0) (sym (others_work u ne)) (stands.kept.told u)
 
-  pub stood : (kept : Kept) (rec : RecId) → NotesIts kept rec → HasNoted core.works t.0 table → (after : Pool D FireLinks) (j : Image) → m.held after.disk ≡ Some j → m.tells after.disk ≡ true
+  pub stood : MayReturn table.shape (written_at table write) before.was → (kept : Kept) (rec : RecId)
+      → NotesIts kept rec → HasNoted core.works t.0 table → (after : Pool D FireLinks) (j : Image) → m.held after.disk ≡ Some j → m.tells after.disk ≡ true
       → after.offline ≡ None → after.geometry ≡ core.store.geometry
       → HasGoneOn m packed_form core.store.geometry.size o h (made_by t table write) s_now core.store after j
       (asked_in (works_kept t.0 table.pointer.0 (written_at table write) before.was core.works))
@@ -391,14 +434,14 @@ module _ (speakers : SpeakersAreTold) (befores : BeforesAreTold) (follow : MadeW
         works = works_kept t.0 table.pointer.0 (written_at table write) before.was core.works;
         directories = kept;
       }) o (made_by t table write ∷ h)
-  stood kept rec notes noted after j held told online_after geometry goes leaves = record {
+  stood returns kept rec notes noted after j held told online_after geometry goes leaves = record {
     tells = told;
     grows = record { limbo = stands.grows.limbo; entries = (makes h t table write other, stands.grows.entries) };
     bases = bases_stay o h (made_by t table write) (takes_none t table write) stands.bases;
     numbers = numbers_now;
     tables = stands.tables;
     given = λ u n x is. stands.given u n x (sym (all_work (λ (w : Option Working). given_by w n) refl u) ∙ is);
-    kept = kept_now noted;
+    kept = kept_now noted returns;
     stands = subst (λ (off : Option ℕ). StandsWhile m
         (record core { store = after; waits = waits; works = works_now; directories = kept }) o
         (made_by t table write ∷ h) s_now off) (sym online_after) shown_now;
@@ -467,15 +510,16 @@ module _ (speakers : SpeakersAreTold) (befores : BeforesAreTold) (follow : MadeW
       }
 
       -- by what is told of the image that the disk has then
-      both : (kept : Kept) (rec : RecId) → NotesIts kept rec → ((j : Image) → m.held after.disk ≡ Some j → WasChanged m core.store after shows.image j own_batch.batch
+      both : MayReturn table.shape (written_at table write) before.was → (kept : Kept) (rec : RecId)
+          → NotesIts kept rec → ((j : Image) → m.held after.disk ≡ Some j → WasChanged m core.store after shows.image j own_batch.batch
           → HasGoneOn m packed_form core.store.geometry.size o h (made_by t table write) s_now core.store after j
           asked_now (sessions_in core.works)
           × LeavesPages core.store.geometry.size s t.0 (shown core.store.dirty shows.image)
           (shown after.dirty j) there.its.pointer.0 (written_at table write) rec) → Stood kept
-      both kept rec notes goes =
+      both returns kept rec notes goes =
           let (j, held, left) = holds after.disk told_after in
           let (gone, leaves) = goes j held (was j held) in (
-            stood kept rec notes noted after j held told_after own_batch.changed.online.1
+            stood returns kept rec notes noted after j held told_after own_batch.changed.online.1
                 (own_batch.changed.geometry ∙ own_batch.keeps.geometry) gone leaves,
             gone.leaves,
             λ u ne also x from rows next. (
@@ -491,13 +535,13 @@ module _ (speakers : SpeakersAreTold) (befores : BeforesAreTold) (follow : MadeW
     module _ (one : RowsAreOne packed_coding) (one_way : StandsOneWay packed_form) (begins : OpeningsBegin) (on : TipsStayOn) (behind : BehindKeepsTips)
         (keep_plain : WritesKeepPlain) (go : WritesGoOn D FireLinks m packed_form)
         (push_on : PushesGoOn packed_form D FireLinks m) (rec : RecId)
-        (was_is : before.was ≡ was_in (own o h t.0) table.name (written_at table write))
+        (was_is : WasTold)
         (speaks : shows.stands.shows.versions.speaker table.name (written_at table write) ≡ Some rec)
         (settled : (newest : Link) → cells_of (shown core.store.dirty shows.image) rec ≡ Some (cells.Anchor newest)
         → said core.list newest.tx.0 ≡ Committed) where
       pub committed_stands : (kept : Kept) → NotesIts kept rec → PushesOver m core.store after rec v → Stood kept
       committed_stands kept notes own_batch = both (λ image batch. Pushes core.store image nothing_yet batch rec v) own_batch
-          kept rec notes
+          was_is.1 kept rec notes
           (λ j held changed.
           let pushes : Pushes core.store shows.image fresh own_batch.batch rec v =
           own_batch.filled shows.image told_now in
@@ -543,7 +587,7 @@ module _ (speakers : SpeakersAreTold) (befores : BeforesAreTold) (follow : MadeW
 
         pub replaced_stands : (kept : Kept) → NotesIts kept rec → ReplacesNewest m core.store after rec v → Stood kept
         replaced_stands kept notes own_batch = both (λ image batch. Replaces core.store image nothing_yet batch rec v) own_batch
-            kept rec notes
+            (was_told (Some rec) spoken is).1 kept rec notes
             (λ j held changed.
             let replaces : Replaces core.store shows.image fresh own_batch.batch rec v =
             own_batch.filled shows.image told_now in (
@@ -560,7 +604,7 @@ module _ (speakers : SpeakersAreTold) (befores : BeforesAreTold) (follow : MadeW
     module _ (one : RowsAreOne packed_coding) (one_way : StandsOneWay packed_form) (begins : OpeningsBegin) (on : TipsStayOn) (behind : BehindKeepsTips)
         (keep_plain : WritesKeepPlain) (go : WritesGoOn D FireLinks m packed_form)
         (first_on : FirstsGoOn packed_form D FireLinks m)
-        (was_is : before.was ≡ was_in (own o h t.0) table.name (written_at table write)) (at : RecId)
+        (was_is : WasTold) (at : RecId)
         (silent : IsSilentAt packed_form core.store.geometry.size o h
         (standing_of core stands.numbers stands.tables) (shown core.store.dirty shows.image) shows.stands.shows
         table.name (written_at table write))
@@ -568,7 +612,7 @@ module _ (speakers : SpeakersAreTold) (befores : BeforesAreTold) (follow : MadeW
         (blank : cells_of (shown core.store.dirty shows.image) at ≡ None) where
       pub made_stands : (kept : Kept) → NotesIts kept at → MakesFirst m core.store after table.pointer.0 at v → Stood kept
       made_stands kept notes own_batch = both (λ image batch. MakesRecord core.store image nothing_yet batch table.pointer.0 at v)
-          own_batch kept at notes (λ j held changed.
+          own_batch was_is.1 kept at notes (λ j held changed.
           let makes : MakesRecord core.store shows.image fresh own_batch.batch there.its.pointer.0 at v =
           subst (λ (n : PageNo). MakesRecord core.store shows.image fresh own_batch.batch n.0 at v)
           (sym there.same.pointer) (own_batch.filled shows.image told_now) in (

@@ -1,6 +1,6 @@
 -- What a transaction keeps for taking back, once tables that it had made are gone: each change that is left is one of the
 -- catalog, or of a table that is still kept.
-use Rattle.std.proofs.Common.{◌≡◌, ◌≢◌, ◌⊎◌, inl, inr, ◌∙◌, ◌==◌, ℕ, Bool, true, false, List, [], ◌∷◌, Option, None, Some, ap, cond, not, refl, sym}
+use Rattle.std.proofs.Common.{◌≡◌, ◌≢◌, ◌⊎◌, inl, inr, ◌∙◌, ◌==◌, ℕ, Bool, true, false, List, [], ◌∷◌, Option, None, Some, ap, cond, not, refl, subst, sym}
 use Rattle.std.specs.Prelude.{if◌then◌else◌, is_some}
 use Rattle.std.specs.Cmp.Lexicographic.{same_text}
 use Rattle.std.proofs.lemmas.Bool.{false≢true}
@@ -27,11 +27,13 @@ use Rattle.mg_image.specs.Sound.{IsSoundBy}
 use Rattle.mg_image.specs.Tables.{Layout}
 use Rattle.mg_image_overlays.specs.TableOwners.{IsOneOf}
 use Rattle.mg_overlays.specs.Overlays.{left_state}
-use Rattle.mg_undo.specs.Machine.{changes_of}
+use Rattle.mg_undo.specs.Machine.{changes_of, was_in}
+use Rattle.mg_undo.specs.declared.changes.Was.{Was}
 use Rattle.mg_undo.specs.Whole.{is_one_of}
 use Rattle.mg_works.specs.Works.{Working, tables_left, work_of, written_in}
 use Rattle.mg_grown_catalogs.specs.Grown.{CatalogGrows}
 use Rattle.mg_engine_steps.specs.Standing.{FindsTables, Standing}
+use Rattle.mg_engine_meaning.specs.Formers.{MayReturnTo}
 use Rattle.mg_engine_meaning.specs.Standings.{AreOfKept, KeepsWritten, written_kept}
 use Rattle.mg_engine_steps.specs.Again.{AreTaken}
 use Rattle.mg_engine_steps.specs.OwnChains.{change_there, none_second}
@@ -59,38 +61,35 @@ left_one keys (x ∷ xs) table one = at (is_one_of keys (table_key x.name)) refl
         (inl same, ap (λ (y : Table). is_one_of keys (table_key y.name)) (sym same) ∙ stays)
     at false stays (inr later) more = let there = more later in (inr there.0, there.1)
 
--- the first of a number is left if its row does not go, so one of the number is
+-- the first of a number is left if its row does not go, so it is the first of the number then
 first_left : (keys : List Value) (tables : List Table) (number : ℕ) (table : Table)
     → written_in tables number ≡ Some table → is_one_of keys (table_key table.name) ≡ false
-    → is_some (written_in (tables_left keys tables) number) ≡ true
+    → written_in (tables_left keys tables) number ≡ Some table
 first_left keys [] number table is stays = absurd cc
 first_left keys (x ∷ xs) number table is stays =
     at (x.pointer.0 == number) refl is (λ more. first_left keys xs number table more stays)
   where
     left_first : (b : Bool) → b ≡ false → (x.pointer.0 == number) ≡ true
-        → is_some (written_in (cond (not b) (x ∷ tables_left keys xs) (tables_left keys xs)) number) ≡ true
+        → written_in (cond (not b) (x ∷ tables_left keys xs) (tables_left keys xs)) number ≡ Some x
     left_first true goes on = absurd (false≢true (sym goes))
     left_first false stays_ on =
-        ap (λ (c : Bool). is_some (if c then Some x else written_in (tables_left keys xs) number)) on
+        ap (λ (c : Bool). if c then Some x else written_in (tables_left keys xs) number) on
 
-    behind : (c : Bool) → is_some (written_in (tables_left keys xs) number) ≡ true
-        → is_some (if c then Some x else written_in (tables_left keys xs) number) ≡ true
-    behind true there = refl
-    behind false there = there
-
-    left_behind : (b : Bool) → is_some (written_in (tables_left keys xs) number) ≡ true
-        → is_some (written_in (cond (not b) (x ∷ tables_left keys xs) (tables_left keys xs)) number) ≡ true
-    left_behind true there = there
-    left_behind false there = behind (x.pointer.0 == number) there
+    left_behind : (b : Bool) → (x.pointer.0 == number) ≡ false
+        → written_in (tables_left keys xs) number ≡ Some table
+        → written_in (cond (not b) (x ∷ tables_left keys xs) (tables_left keys xs)) number ≡ Some table
+    left_behind true off there = there
+    left_behind false off there =
+        ap (λ (c : Bool). if c then Some x else written_in (tables_left keys xs) number) off ∙ there
 
     at : (c : Bool) → (x.pointer.0 == number) ≡ c → (if c then Some x else written_in xs number) ≡ Some table
-        → (written_in xs number ≡ Some table → is_some (written_in (tables_left keys xs) number) ≡ true)
-        → is_some (written_in (tables_left keys (x ∷ xs)) number) ≡ true
+        → (written_in xs number ≡ Some table → written_in (tables_left keys xs) number ≡ Some table)
+        → written_in (tables_left keys (x ∷ xs)) number ≡ Some table
     at true on some more =
         let same : x ≡ table = cc in
         left_first (is_one_of keys (table_key x.name))
-        (ap (λ (y : Table). is_one_of keys (table_key y.name)) same ∙ stays) on
-    at false off some more = left_behind (is_one_of keys (table_key x.name)) (more some)
+        (ap (λ (y : Table). is_one_of keys (table_key y.name)) same ∙ stays) on ∙ some
+    at false off some more = left_behind (is_one_of keys (table_key x.name)) off (more some)
 
 -- ---- changes that are left
 
@@ -100,17 +99,18 @@ StaysKept catalog written keys number = (number ≡ catalog)
     ⊎ ((x : Table) → IsOneOf written x → x.pointer.0 ≡ number → is_one_of keys (table_key x.name) ≡ false)
 
 module _ (catalog : ℕ) (written : List Table) (keys : List Value) (number : List ℕ → ℕ) where
-  one_kept : (n : ℕ) → StaysKept catalog written keys n → (n ≡ catalog) ⊎ (is_some (written_in written n) ≡ true)
-      → (n ≡ catalog) ⊎ (is_some (written_in (tables_left keys written) n) ≡ true)
-  one_kept n (inl its) kept = inl its
-  one_kept n (inr stays) (inl its) = inl its
-  one_kept n (inr stays) (inr found) = inr (at (written_in written n) refl found)
+  one_kept : (n : ℕ) (key : Value) (was : Was) → StaysKept catalog written keys n
+      → (n ≡ catalog) ⊎ MayReturnTo (written_in written n) key was
+      → (n ≡ catalog) ⊎ MayReturnTo (written_in (tables_left keys written) n) key was
+  one_kept n key was (inl its) kept = inl its
+  one_kept n key was (inr stays) (inl its) = inl its
+  one_kept n key was (inr stays) (inr may) = inr (at (written_in written n) refl may)
     where
-      at : (x : Option Table) → written_in written n ≡ x → is_some x ≡ true
-          → is_some (written_in (tables_left keys written) n) ≡ true
-      at None is found_ = absurd (false≢true found_)
-      at (Some x) is found_ = first_left keys written n x is
-          (stays x (one_in written n x is) (first_in written n x is))
+      at : (x : Option Table) → written_in written n ≡ x → MayReturnTo x key was
+          → MayReturnTo (written_in (tables_left keys written) n) key was
+      at None is may_ = absurd may_
+      at (Some x) is may_ = subst (λ (y : Option Table). MayReturnTo y key was) (sym (first_left keys written n x is
+          (stays x (one_in written n x is) (first_in written n x is)))) may_
 
   kept_left : (deeds : List Deed) → AreOfKept catalog written (changes_of number deeds)
       → ((name : List ℕ) (key : Value) → has_change (changes_in deeds) name key ≡ true
@@ -120,7 +120,7 @@ module _ (catalog : ℕ) (written : List Table) (keys : List Value) (number : Li
   kept_left (Marked ∷ deeds) are stay = kept_left deeds are stay
   kept_left (Saved name ∷ deeds) are stay = kept_left deeds are stay
   kept_left (Changed c ∷ deeds) are stay = (
-    one_kept (number c.table) (stay c.table c.key here) are.0,
+    one_kept (number c.table) c.key (was_in (changes_in deeds) c.table c.key) (stay c.table c.key here) are.0,
     kept_left deeds are.1 (λ name key has_. stay name key (later name key has_)),
   )
     where

@@ -82,6 +82,7 @@ use Rattle.mg_engine_changes.specs.Walks.{WalkInto}
 use Rattle.mg_engine_changes.specs.Spots.{HasTaken}
 use Rattle.mg_engine_changes.specs.Befores.{BeforesAreTold}
 use Rattle.mg_engine_changes.specs.Codes.{StoredRowsAreCoded}
+use Rattle.mg_engine_meaning.specs.Formers.{MayReturn}
 use Rattle.mg_engine_changes.specs.Enters.{cleared_told, committed_stands, dead_cleared, pushed_stands, replaced_stands, made_stands, placed_told, spot_taken, tells, there, was_told}
 use Rattle.mg_engine_changes.specs.Kept.{MadeWritesFollow, made_by}
 use Rattle.mg_engine_changes.specs.Clearing.{HasCleared, StaysFor}
@@ -354,7 +355,8 @@ module _ (speakers : SpeakersAreTold) (obstacles : ObstaclesAtKeys) (rows : Rows
     none_at = subst Facts_at (sym (goes_to (said old.list) old.live t.0
         (shown read.store.dirty mid_shows.image) table ready.rec before facts.2) ∙ ap record_of way) facts
 
-    made_was : before.was ≡ was_in (own o h t.0) table.name (written_at table write)
+    made_was : (before.was ≡ was_in (own o h t.0) table.name (written_at table write))
+        × MayReturn table.shape (written_at table write) before.was
     made_was = was_told speakers befores follow may_write coded lists m places unask
         (record old { store = read.store }) since.keeps.pool o h mid_stands mid_shows t begun.continues.1
         begun.may.work work_is table given write fits storable read.waits since.over before version ready.has.stored
@@ -415,7 +417,8 @@ module _ (speakers : SpeakersAreTold) (obstacles : ObstaclesAtKeys) (rows : Rows
     at_record : Facts_at (Some rec)
     at_record = facts_at rec (ap record_of way)
 
-    over_was : before.was ≡ was_in (own o h t.0) table.name (written_at table write)
+    over_was : (before.was ≡ was_in (own o h t.0) table.name (written_at table write))
+        × MayReturn table.shape (written_at table write) before.was
     over_was = was_told speakers befores follow may_write coded lists m places unask
         (record old { store = read.store }) since.keeps.pool o h mid_stands mid_shows t begun.continues.1
         begun.may.work work_is table given write fits storable read.waits since.over before version ready.has.stored

@@ -120,6 +120,7 @@ pub mod Remembering
 pub mod RememberingLaws
 pub mod Retracted
 pub mod RetractedLaws
+pub mod ReturnLaws
 pub mod RowWalks
 pub mod RowWalksLaws
 pub mod Rows

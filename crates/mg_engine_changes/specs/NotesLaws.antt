@@ -92,7 +92,7 @@ noted_tables_are_kept t table works work its = at (is_some (written_to works t t
 -- what is kept, with the table before those that are kept already
 kept_by : (t catalog : ℕ) (table : Table) (works : List Working) (tables : Tables) → tables t table.name ≡ Some table
     → KeepsWritten catalog works tables → KeepsWritten catalog (noted t table works) tables
-kept_by t catalog table works tables seen keeps = at _
+kept_by t catalog table works tables seen keeps = at (is_some (written_to works t table.pointer.0)) refl
   where
     u_is : (u : ℕ) → u ≡ t → (w : Working) → work_of works t ≡ Some w
         → work_of (with_work t (with_written table) works) u ≡ Some (with_written table w)
@@ -128,21 +128,29 @@ kept_by t catalog table works tables seen keeps = at _
         on (inl e) None is = same (same_work u (inr is))
         on (inl e) (Some w) is = subst P (sym (u_is u e w is)) (its e w (ap (work_of works) e ∙ is))
 
-    with_it : KeepsWritten catalog (with_work t (with_written table) works) tables
-    with_it = record {
+    -- none was kept that begins there
+    none_kept : is_some (written_to works t table.pointer.0) ≡ false → (u : ℕ) → u ≡ t → (w : Working)
+        → work_of works u ≡ Some w → is_some (written_in w.written table.pointer.0) ≡ false
+    none_kept none u e w was = sym (ap (λ (x : Option Working). is_some (written_by x table.pointer.0))
+        (sym (ap (work_of works) e) ∙ was)) ∙ none
+
+    with_it : is_some (written_to works t table.pointer.0) ≡ false
+        → KeepsWritten catalog (with_work t (with_written table) works) tables
+    with_it none = record {
       seen = λ u x. by_work (λ v. IsOneOf (written_kept v) x → SeesAlike (tables u x.name) x) u
           (λ same is. keeps.seen u x (subst (λ (v : Option Working). IsOneOf (written_kept v) x) same is))
           (λ e w was is. found u x e w was is);
       told = λ u. by_work (AreTold catalog) u
           (λ same. subst (AreTold catalog) (sym same)
-          (keeps.told u)) (λ e w was. kept_behind catalog table w.written w.undo.changes
+          (keeps.told u)) (λ e w was. kept_behind catalog table w.written w.undo.changes (none_kept none u e w was)
           (subst (AreTold catalog) was
           (keeps.told u)));
     }
 
-    at : (b : Bool) → KeepsWritten catalog (noted_if b t table works) tables
-    at true = keeps
-    at false = with_it
+    at : (b : Bool) → is_some (written_to works t table.pointer.0) ≡ b
+        → KeepsWritten catalog (noted_if b t table works) tables
+    at true is = keeps
+    at false is = with_it is
 
 module _ {D : Type 0} (m : Meaning D) (core : Core D) (now : List Working) (stay : WorksStay core.works now) where
   abbrev later : Core D

@@ -114,6 +114,20 @@ first_at (x ∷ stands) name page (inr more) =
     let it = first_at stands name page more in
     record { stand = it.stand; there = inr it.there; named = it.named; first = it.first }
 
+-- one that is shown has its first page
+pub first_there : (layout : Layout) (table : Table) → IsShown layout table
+    → HasFirstPage (stands_of layout) table.name table.pointer.0
+first_there layout table there = subst (λ (n : List ℕ). HasFirstPage (stands_of layout) n table.pointer.0) there.same.name
+    (subst (λ (p : PageNo). HasFirstPage (stands_of layout) there.its.name p.0) there.same.pointer
+    (subst (λ (x : Table). HasFirstPage (stands_of layout) x.name x.pointer.0) there.stands.table_is
+    (subst (λ (ss : List Stand). HasFirstPage ss there.stands.stand.table.name there.stands.stand.table.pointer.0)
+    (sym there.stands.is_) (within there.stands.before there.stands.after there.stands.stand))))
+  where
+    within : (before after : List Stand) (stand : Stand)
+        → HasFirstPage (before ++ (stand ∷ after)) stand.table.name stand.table.pointer.0
+    within [] after stand = inl (refl, refl)
+    within (x ∷ before) after stand = inr (within before after stand)
+
 module _ (size : ℕ) (state : ℕ → TxState) (pages : Pages) (layout : Layout) (reading : Reading)
     (sound : IsSoundBy packed_form size state pages layout reading) where
   once : IsOnce (flat_map pages_of (stands_of layout))

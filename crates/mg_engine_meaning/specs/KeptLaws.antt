@@ -1,7 +1,7 @@
 -- The tables that transactions keep for taking back, as works become others.
 use Rattle.std.proofs.Common.{◌≡◌, ◌≢◌, ◌⊎◌, inl, inr, ◌==◌, ◌∙◌, ap, refl, subst, sym, ℕ, Bool, true, false, List, [], ◌∷◌, Option, None, Some}
 use Rattle.std.specs.Prelude.{if◌then◌else◌, is_some, map}
-use Rattle.std.proofs.lemmas.Bool.{cases_eq}
+use Rattle.std.proofs.lemmas.Bool.{cases_eq, eqb-true, false≢true}
 use Rattle.mg_base.specs.declared.transaction.TxState.{TxState}
 use Rattle.mg_engine_steps.specs.Known.{IsShown, seen_is_shown}
 use Rattle.mg_image.specs.Catalog.{IsSameTable}
@@ -13,8 +13,11 @@ use Rattle.mg_image_overlays.specs.TableOwners.{IsOneOf}
 use Rattle.mg_model.specs.declared.table.Table.{Table}
 use Rattle.mg_image_overlays.specs.OneTable.{one_table}
 use Rattle.mg_undo.specs.declared.changes.Change.{Change}
+use Rattle.mg_undo.specs.declared.changes.Was.{Was}
+use Rattle.mg_value.specs.declared.value.Value.{Value}
 use Rattle.mg_works.specs.Works.{Working, with_work, without_work, work_of, written_in}
 use Rattle.mg_works.specs.WorksLaws.{with_its, with_none, with_others, without_its, without_others}
+use Rattle.mg_engine_meaning.specs.Formers.{MayReturnTo}
 use Rattle.mg_engine_meaning.specs.Standings.{AreOfKept, AreTold, KeepsWritten, SeesAlike, Tables, undo_kept, written_kept}
 
 -- ---- tables that are alike
@@ -150,22 +153,25 @@ kept_without_work t catalog works tables kept = kept_each catalog works (without
 
 -- ---- a table is kept, and a change of it
 
--- what is found among some tables is found behind one more, or that one is
-pub found_behind : (x : Table) (written : List Table) (number : ℕ) → is_some (written_in written number) ≡ true
-    → is_some (written_in (x ∷ written) number) ≡ true
-found_behind x written number found = at (x.pointer.0 == number)
-  where
-    at : (b : Bool) → is_some (if b then Some x else written_in written number) ≡ true
-    at true = refl
-    at false = found
+-- what may come back to a table that is kept has one
+pub has_kept : (kept : Option Table) (key : Value) (was : Was) → MayReturnTo kept key was → is_some kept ≡ true
+has_kept None key was may = absurd may
+has_kept (Some table) key was may = refl
 
--- so changes are of those that are kept where one more is
+-- changes are of those that are kept where one more is, of which none is kept yet
 pub kept_behind : (catalog : ℕ) (x : Table) (written : List Table) (changes : List Change)
-    → AreOfKept catalog written changes → AreOfKept catalog (x ∷ written) changes
-kept_behind catalog x written [] are = tt
-kept_behind catalog x written (c ∷ cs) are = (on are.0, kept_behind catalog x written cs are.1)
+    → is_some (written_in written x.pointer.0) ≡ false → AreOfKept catalog written changes
+    → AreOfKept catalog (x ∷ written) changes
+kept_behind catalog x written [] none are = tt
+kept_behind catalog x written (c ∷ cs) none are = (on are.0, kept_behind catalog x written cs none are.1)
   where
-    on : (c.table ≡ catalog) ⊎ (is_some (written_in written c.table) ≡ true)
-        → (c.table ≡ catalog) ⊎ (is_some (written_in (x ∷ written) c.table) ≡ true)
+    at : (b : Bool) → (x.pointer.0 == c.table) ≡ b → MayReturnTo (written_in written c.table) c.key c.was
+        → MayReturnTo (if b then Some x else written_in written c.table) c.key c.was
+    at true is may = absurd (false≢true (sym none ∙ (ap (λ (n : ℕ). is_some (written_in written n))
+        (eqb-true x.pointer.0 c.table is) ∙ has_kept (written_in written c.table) c.key c.was may)))
+    at false is may = may
+
+    on : (c.table ≡ catalog) ⊎ MayReturnTo (written_in written c.table) c.key c.was
+        → (c.table ≡ catalog) ⊎ MayReturnTo (written_in (x ∷ written) c.table) c.key c.was
     on (inl is) = inl is
-    on (inr found) = inr (found_behind x written c.table found)
+    on (inr may) = inr (at (x.pointer.0 == c.table) refl may)

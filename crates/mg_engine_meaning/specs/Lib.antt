@@ -20,6 +20,7 @@ pub mod FailEnds
 pub mod FailedDraws
 pub mod Falling
 pub mod FaultLaws
+pub mod Formers
 pub mod FrameLaws
 pub mod Frames
 pub mod FreePages

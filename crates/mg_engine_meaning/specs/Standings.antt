@@ -26,6 +26,7 @@ use Rattle.mg_undo.specs.declared.changes.Change.{Change}
 use Rattle.mg_waits.specs.Waits.{edges_in}
 use Rattle.mg_works.specs.Works.{Working, given_to, work_of, written_in}
 use Rattle.mg_core.specs.declared.parts.Core.{Core}
+use Rattle.mg_engine_meaning.specs.Formers.{MayReturnTo}
 use Rattle.mg_engine_meaning.specs.LawfulBases.{BasesAreLawful}
 use Rattle.mg_engine_meaning.specs.PlainTables.{HasPlainTables}
 
@@ -95,18 +96,19 @@ abbrev pub SeesAlike : Option Table → Table → Type 0
 SeesAlike None table = ⊥
 SeesAlike (Some its) table = IsSameTable its table
 
--- each of these changes is one of the catalog, which begins at a page, or of a table that is kept
+-- each of these changes is one of the catalog, which begins at a page, or of a table that is kept, to which what was may
+-- come back
 abbrev pub AreOfKept : ℕ → List Table → List Change → Type 0
 AreOfKept catalog written [] = Unit {0}
 AreOfKept catalog written (c ∷ cs) =
-    ((c.table ≡ catalog) ⊎ (is_some (written_in written c.table) ≡ true)) × AreOfKept catalog written cs
+    ((c.table ≡ catalog) ⊎ MayReturnTo (written_in written c.table) c.key c.was) × AreOfKept catalog written cs
 
 -- each change that a transaction has to take back is
 abbrev pub AreTold : ℕ → Option Working → Type 0
 AreTold catalog work = AreOfKept catalog (written_kept work) (undo_kept work).changes
 
 -- The tables that transactions keep, since they have written into them: each is one that its transaction sees, and
--- each change that a transaction has to take back is of one of these, or of the catalog.
+-- each change that a transaction has to take back is of one of these, to which what was may come back, or of the catalog.
 pub record KeepsWritten (catalog : ℕ) (works : List Working) (tables : Tables) : Type 0 where
   pub seen : (t : ℕ) (table : Table) → IsOneOf (written_kept (work_of works t)) table
       → SeesAlike (tables t table.name) table

@@ -1,13 +1,14 @@
 -- A key is taken back without damage: the record that spoke for it at first is found, and its newest version is the
 -- transaction's own.
-use Rattle.std.proofs.Common.{◌≡◌, ◌⊎◌, inl, inr, ap, refl, sym, subst, ◌∙◌, ℕ, Bool, true, false, List, [], ◌∷◌, Option, None, Some}
+use Rattle.std.proofs.Common.{◌≡◌, ◌≢◌, ◌≤◌, ◌/◌, ◌⊎◌, zero, suc, inl, inr, ap, refl, sym, subst, ◌∙◌, ℕ, Bool, true, false, List, [], ◌∷◌, Option, None, Some}
 use Rattle.std.proofs.Math.Path.{fun_ext}
 use Rattle.std.proofs.lemmas.Bool.{eqb-true, false≢true, ne_eqb}
-use Rattle.std.specs.Prelude.{if◌then◌else◌, map}
+use Rattle.std.specs.Prelude.{if◌then◌else◌, map, slice_get}
 use Rattle.mg_base.specs.Disk.{Meaning}
 use Rattle.mg_base.specs.Image.{Image}
 use Rattle.mg_base.specs.declared.damage.Damaged.{Damaged}
 use Rattle.mg_base.specs.declared.geometry.Geometry.{Geometry}
+use Rattle.mg_base.specs.declared.numbers.PageNo.{PageNo}
 use Rattle.mg_base.specs.declared.numbers.RecId.{RecId}
 use Rattle.mg_base.specs.declared.numbers.TxNo.{TxNo}
 use Rattle.mg_base.specs.declared.transaction.TxState.{TxState}
@@ -19,7 +20,10 @@ use Rattle.mg_engine_changes.specs.FoundLaws.{changes_are_there}
 use Rattle.mg_engine_changes.specs.Takings.{KnowsCache}
 use Rattle.mg_engine_changes.specs.TakingSteps.{StandsMidway}
 use Rattle.mg_engine_changes.specs.Written.{KeptTablesAreNamed, KeptTablesStand}
-use Rattle.mg_engine_meaning.specs.Standings.{KeepsWritten}
+use Rattle.mg_engine_changes.specs.WrittenLaws.{one_in}
+use Rattle.mg_engine_meaning.specs.Formers.{IsOfKind, MayReturn}
+use Rattle.mg_engine_meaning.specs.KeptLaws.{alike_some}
+use Rattle.mg_engine_meaning.specs.Standings.{KeepsWritten, written_kept}
 use Rattle.mg_engine_steps.specs.BasedLaws.{tests_all}
 use Rattle.mg_engine_steps.specs.Known.{IsShown}
 use Rattle.mg_engine_steps.specs.OtherIndexes.{as_other, speaker_on}
@@ -45,6 +49,10 @@ use Rattle.mg_model.specs.Openings.{everyone}
 use Rattle.mg_model.specs.declared.change.Change.{Change}
 use Rattle.mg_model.specs.declared.opening.Opening.{Opening}
 use Rattle.mg_model.specs.declared.table.Table.{Table}
+use Rattle.mg_image_overlays.specs.TableOwners.{IsOneOf}
+use Rattle.mg_no_damage.proofs.FitLemmas.{rows_fit, stored_short}
+use Rattle.mg_no_damage.proofs.KeyedLemmas.{tables_are_keyed}
+use Rattle.mg_no_damage.specs.Keyed.{IsKeyAt, IsKeyed}
 use Rattle.mg_no_damage.specs.Keys.{WaysAreRead}
 use Rattle.mg_no_damage.specs.Sees.{no_batch}
 use Rattle.mg_no_damage.specs.Sound.{SoundRecordsAreLawful, SoundTablesStand}
@@ -58,7 +66,10 @@ use Rattle.mg_pool.specs.Pool.{shown}
 use Rattle.mg_pool.specs.declared.fault.PoolFault.TheVariants as pool_faults
 use Rattle.mg_pool.specs.declared.pool.Pool.{Pool}
 use Rattle.mg_pool_overlays.specs.Needs.{Asked, Sessions}
+use Rattle.mg_records.specs.Writing.{FitsShape, IsOfColumn}
 use Rattle.mg_records.specs.declared.write.Write.{Write}
+use Rattle.mg_records.specs.declared.write.Write.TheVariants as writes
+use Rattle.mg_row_writes.specs.Storing.{IsStored, MayBeStored}
 use Rattle.mg_row_writes.specs.Changing.{FailsOwn, FailsReplacing, FailsTakingOut, not_changed, not_filled}
 use Rattle.mg_seek.specs.Histories.{HasSpeaker, SpeakersStand, told_versions, versions_spoken}
 use Rattle.mg_seek.specs.Readings.{PlacesOfReadings}
@@ -66,15 +77,23 @@ use Rattle.mg_seek.specs.Speaking.{IsSpeaker, RefusesTableRows}
 use Rattle.mg_seek.specs.Versions.{wants}
 use Rattle.mg_seek.specs.declared.whose.Wanted.TheVariants.{Any, Living}
 use Rattle.mg_space.specs.Taking.{IsGeometry}
+use Rattle.mg_space.specs.TakingLaws.{page_sizes}
 use Rattle.mg_space.specs.View.{KeepsStore}
 use Rattle.mg_space.specs.ViewLaws.{tells_on}
 use Rattle.mg_space.specs.declared.fault.SpaceFault.{SpaceFault}
 use Rattle.mg_space.specs.declared.fault.SpaceFault.TheVariants as faults
 use Rattle.mg_space.specs.declared.links.FireLinks.{FireLinks}
 use Rattle.mg_image_overlays.specs.OneTable.{one_table, table_at_stands}
+use Rattle.mg_taking_back.specs.Formers.{MayComeBack}
 use Rattle.mg_taking_back.specs.Keys.{FailsKey, FailsPuttingBack, IsOwn, RefusesOwnAt, former, former_long, former_memory, former_not_put, former_unfit, key_not_put, key_unfit, key_unread, own_nobody, own_other, own_unread, own_unspoken}
 use Rattle.mg_undo.specs.declared.changes.Was.{Was}
-use Rattle.mg_works.specs.Works.{Working, written_to}
+use Rattle.mg_undo.specs.declared.changes.Was.TheVariants as wases
+use Rattle.mg_value.specs.Rows.{row_len_of}
+use Rattle.mg_value.specs.declared.shape.Column.{Column}
+use Rattle.mg_value.specs.declared.shape.Shape.{Shape}
+use Rattle.mg_value.specs.declared.value.Value.{Value}
+use Rattle.mg_version.specs.declared.cell.Version.{Version}
+use Rattle.mg_works.specs.Works.{Working, work_of, written_by, written_to}
 use Rattle.mg_no_damage.specs.BackKeys.{KeysMeetNoDamage, KeysMissNoPage}
 
 -- ---- a version in front
@@ -131,6 +150,35 @@ keys_miss_no_page m before after state live t table key was n (key_unfit not_ is
 keys_miss_no_page m before after state live t table key was n (key_unread keeps reads told why) = reads
 keys_miss_no_page m before after state live t table key was n (key_not_put rec ready keeps online own_ fails) =
     putting_missing m ready after t table rec (former key was) n fails
+
+-- ---- what may come back
+
+-- a table that is found for its first page is one that is kept
+kept_one : (work : Option Working) (number : ℕ) (table : Table) → written_by work number ≡ Some table
+    → IsOneOf (written_kept work) table
+kept_one None number table is = absurd cc
+kept_one (Some w) number table is = one_in w.written number table is
+
+may_come : (shape : Shape) (key : Value) (was : Was) → MayReturn shape key was → MayComeBack shape key was
+may_come shape key wases.Untouched returns = tt
+may_come shape key wases.Deleted returns = returns.0
+may_come shape key (wases.Row row) returns = (returns.0, returns.1)
+
+-- a column that never is NULL is one
+key_column : (columns : List Column) (at : ℕ) (key : Value) → IsKeyAt columns at → IsOfKind (slice_get columns at) key
+    → IsOfColumn (slice_get columns at) key
+key_column [] at key is of = absurd is
+key_column (c ∷ cs) zero key is of = of
+key_column (c ∷ cs) (suc at) key is of = key_column cs at key is.1 of
+
+former_fits : (shape : Shape) (key : Value) (was : Was) → IsKeyed shape → MayReturn shape key was → (write : Write)
+    → former key was ≡ Some write → FitsShape shape write
+former_fits shape key wases.Untouched keyed returns write is = absurd cc
+former_fits shape key wases.Deleted keyed returns write is =
+    let same : writes.Erase key ≡ write = cc in
+    subst (FitsShape shape) same (key_column shape.columns shape.key key keyed returns.1)
+former_fits shape key (wases.Row row) keyed returns write is =
+    let same : writes.Insert row ≡ write = cc in subst (FitsShape shape) same returns.2
 
 -- ---- a key
 
@@ -376,6 +424,22 @@ module _ {D : Type 0} (m : Meaning D) (stand : KeptTablesStand) (named : KeptTab
 
     -- ---- and changed
 
+    -- what comes back fits a page
+    may_store : (write : Write) (v : Version) → IsStored table t write v
+        → MayBeStored store.geometry.size table.pointer.0 v
+    may_store write v stored =
+        let on = tables_stand store.geometry.size (left_state everyone s.state) (shown store.dirty i)
+        midway.pages.layout midway.pages.reading sound_on there.its table there.stands there.same in
+        let (x, is, same) = alike_some (s.table t table.name) table
+        (keeps.seen t table (kept_one (work_of works t) (s.number t c.table) table kept)) in record {
+          some = subst (λ (p : PageNo). p.0 ≢ 0) on.same.pointer on.has.first;
+          short = stored_short store.geometry.size table t write v stored
+              (subst (λ (shape : Shape). row_len_of shape.columns ≤ store.geometry.size / 2) same.shape
+              (rows_fit store.geometry.size (map (λ stand. stand.table) midway.pages.layout.tables) x
+              sound_on.names.all.fit (finds_it.seen table.name x is)))
+              (page_sizes store.geometry.size shows.geometry.size).0;
+        }
+
     its_record : IsRecordOf midway.pages.layout midway.pages.reading speaker_there.p there.its
     its_record = record {
       of = speaker_there.of_its;
@@ -384,32 +448,39 @@ module _ {D : Type 0} (m : Meaning D) (stand : KeptTablesStand) (named : KeptTab
       are = begins.2;
     }
 
-    put_back : (rec : RecId) → speaker_there.p ≡ rec → (write : Option Write) (it : Damaged)
+    put_back : (rec : RecId) → speaker_there.p ≡ rec → (write : Option Write)
+        → ((w : Write) → write ≡ Some w → FitsShape table.shape w) → (it : Damaged)
         → FailsPuttingBack m store after t table rec write (faults.Damaged it) → ⊥
     unfolding its_record begins
-    put_back rec is None it fails = out store after i (left_state everyone s.state) midway.pages.layout
+    put_back rec is None fits it fails = out store after i (left_state everyone s.state) midway.pages.layout
         midway.pages.reading shows speaker_there.p there.its its_record it
         (subst (λ (x : RecId). FailsTakingOut m store after x (faults.Damaged it)) (sym is) fails)
-    put_back rec is (Some write) it (former_unfit not_ memory_ same_) = absurd cc
-    put_back rec is (Some write) it (former_memory memory_ same_) = absurd cc
-    put_back rec is (Some write) it (former_long v stored not_ memory_ same_) = absurd cc
-    put_back rec is (Some write) it (former_not_put v stored may fails) = replaced store after i
+    put_back rec is (Some write) fits it (former_unfit not_ is_ same_) = not_ (fits write refl)
+    put_back rec is (Some write) fits it (former_memory memory_ same_) = absurd cc
+    put_back rec is (Some write) fits it (former_long v stored not_ is_ same_) = not_ (may_store write v stored)
+    put_back rec is (Some write) fits it (former_not_put v stored may fails) = replaced store after i
         (left_state everyone s.state) midway.pages.layout midway.pages.reading shows speaker_there.p there.its
         its_record v (same_number begins.0.version.tx v.tx (begins.3 ∙ sym stored.its)) may.short it
         (subst (λ (x : RecId). FailsReplacing m store after x v (faults.Damaged it)) (sym is) fails)
 
-  pub key_taken : (was : Was) (it : Damaged)
+  -- the column of the key is there
+  keyed : IsKeyed table.shape
+  keyed = subst IsKeyed there.same.shape (tables_are_keyed size (left_state everyone s.state) (shown before.dirty i)
+      midway.pages.layout midway.pages.reading midway.pages.sound there.its there.stands)
+
+  pub key_taken : (was : Was) → MayReturn table.shape c.key was → (it : Damaged)
       → FailsKey m before after s.state s.live t table c.key was (faults.Damaged it) → ⊥
-  key_taken was it (key_unfit not_ is same) = absurd cc
-  key_taken was it (key_unread same reads told why) = own_found after same it (why i knows.tells)
-  key_taken was it (key_not_put rec ready same online own_ fails) =
-      put_back ready same rec (it_is rec (own_ i knows.tells).spoken) (former c.key was) it fails
+  key_taken was returns it (key_unfit not_ is same) = not_ (may_come table.shape c.key was returns)
+  key_taken was returns it (key_unread same reads told why) = own_found after same it (why i knows.tells)
+  key_taken was returns it (key_not_put rec ready same online own_ fails) =
+      put_back ready same rec (it_is rec (own_ i knows.tells).spoken) (former c.key was)
+      (former_fits table.shape c.key was keyed returns) it fails
 
 pub keys_meet_no_damage : {D : Type 0} (m : Meaning D) → KeptTablesStand → KeptTablesAreNamed → SpeakersStand
     → PlacesOfReadings → SoundRecordsAreLawful → SoundTablesStand → TablesAreRead m → WaysAreRead m
     → VersionsAreTakenOut m → VersionsAreReplaced m → KeysMeetNoDamage D m
 keys_meet_no_damage m stand named speak places lawful_of tables_stand read ways out replaced size o h e t whole left s
     start before after begun first i asked session midway memory active catalog works keeps knows c to_take changed
-    table kept was it fails = key_taken m stand named speak places lawful_of tables_stand read ways out replaced size o
+    table kept was returns it fails = key_taken m stand named speak places lawful_of tables_stand read ways out replaced size o
     h e t whole left s start before after begun first i asked session midway memory active catalog works keeps knows c
-    to_take changed table kept was it fails
+    to_take changed table kept was returns it fails

@@ -1,6 +1,6 @@
 -- A transaction is taken back over some changes, and then comes the next one: the engine finds no page damaged.
-use Rattle.std.proofs.Common.{◌≡◌, ◌⊎◌, inl, inr, ◌==◌, ◌++◌, ap, refl, sym, subst, ◌∙◌, ℕ, Bool, true, false, ◌&&◌, List, [], ◌∷◌, Option, None, Some}
-use Rattle.std.proofs.lemmas.Bool.{eqb-true, false≢true}
+use Rattle.std.proofs.Common.{◌≡◌, ◌⊎◌, inl, inr, ◌==◌, ◌++◌, ap, refl, sym, subst, ◌∙◌, ℕ, Bool, true, false, ◌&&◌, ◌||◌, List, [], ◌∷◌, Option, None, Some, cond}
+use Rattle.std.proofs.lemmas.Bool.{eq-eqb, eqb-true, false≢true}
 use Rattle.std.proofs.lemmas.List.{append_assoc}
 use Rattle.std.specs.Cmp.Lexicographic.{same_text}
 use Rattle.std.specs.Prelude.{if◌then◌else◌, is_some, map}
@@ -10,19 +10,26 @@ use Rattle.mg_core.specs.Cores.{IsCore}
 use Rattle.mg_core.specs.Refusing.{CountsFault}
 use Rattle.mg_core.specs.declared.parts.Core.{Core}
 use Rattle.mg_engine_changes.specs.BackBegun.{begun_work, goes, kept_begun, knows, midway, opening}
-use Rattle.mg_engine_changes.specs.Events.{undo_is}
+use Rattle.mg_engine_changes.specs.EngineOverLaws.{rest_within}
+use Rattle.mg_engine_changes.specs.Events.{takes_back, undo_is}
 use Rattle.mg_engine_changes.specs.Keys.{HasTakenKeys, IsOfTable}
 use Rattle.mg_engine_changes.specs.Known.{KnownOfBacks}
 use Rattle.mg_engine_changes.specs.Outcomes.{back_event}
 use Rattle.mg_engine_changes.specs.Stopped.{each_front}
 use Rattle.mg_engine_changes.specs.StopsAfter.{begun_as}
-use Rattle.mg_engine_changes.specs.ToTake.{AreKeysOf, EachChange, since_point}
+use Rattle.mg_engine_changes.specs.ToTake.{AreKeysOf, EachChange, since_if, since_point}
 use Rattle.mg_engine_changes.specs.WrittenLaws.{first_named}
+use Rattle.mg_engine_meaning.specs.Formers.{MayReturn, MayReturnTo}
+use Rattle.mg_engine_meaning.specs.KeptLaws.{has_kept}
 use Rattle.mg_engine_meaning.specs.Standings.{AreOfKept, AreTold, ShowsIt, StandsFor, asked_in, sessions_in, standing_of}
 use Rattle.mg_engine_steps.specs.Known.{catalog_is_shown}
 use Rattle.mg_engine_steps.specs.Standing.{Standing}
-use Rattle.mg_model.specs.Changes.{has_change, same_key, same_name}
-use Rattle.mg_model.specs.History.{Entries, Entry, entry}
+use Rattle.mg_model.specs.Answers.{catalog_of, told as told_by}
+use Rattle.mg_model.specs.Changes.{has_change, is_at, same_key, same_name}
+use Rattle.mg_model.specs.DeedLaws.{deeds_after, deeds_after_entry}
+use Rattle.mg_model.specs.Effects.{deeds_back, deeds_left, has_deed}
+use Rattle.mg_model.specs.History.{Effect, Entries, Entry, entry}
+use Rattle.mg_model.specs.RowLaws.{same_from_same_key}
 use Rattle.mg_model.specs.Machine.{changes_in, deeds_by, own, steps}
 use Rattle.mg_model.specs.Openings.{everyone}
 use Rattle.mg_model.specs.declared.answer.Answer.TheVariants.{Fine}
@@ -30,6 +37,7 @@ use Rattle.mg_model.specs.declared.change.Change.{Change}
 use Rattle.mg_model.specs.declared.change.Deed.{Deed}
 use Rattle.mg_model.specs.declared.change.Deed.TheVariants.{Changed, Marked, Saved}
 use Rattle.mg_model.specs.declared.change.Point.{Point}
+use Rattle.mg_model.specs.declared.change.Point.TheVariants.{LastMark, SavepointNamed}
 use Rattle.mg_model.specs.declared.opening.Opening.{Opening}
 use Rattle.mg_model.specs.declared.refusal.Refusal.{Refusal}
 use Rattle.mg_model.specs.declared.table.Table.{Table}
@@ -42,7 +50,8 @@ use Rattle.mg_taking_back.specs.Changes.{FailsChange, change_not_taken, change_o
 use Rattle.mg_taking_back.specs.Keys.{FailsKey}
 use Rattle.mg_taking_back.specs.Taking.{HasBegun, TakesChanges}
 use Rattle.mg_txlist.specs.TxList.{said}
-use Rattle.mg_undo.specs.Machine.{changes_of, given_from, was_in}
+use Rattle.mg_undo.specs.Machine.{changes_of, changes_since, given_from, was_given, was_in}
+use Rattle.mg_undo.specs.declared.changes.Was.{Was}
 use Rattle.mg_undo.specs.Undo.{State as Undo, TakesBack as GivesAll, ends, gives, take_back}
 use Rattle.mg_undo.specs.declared.changes.Change.{Change as Kept}
 use Rattle.mg_value.specs.declared.value.Value.{Value}
@@ -106,6 +115,126 @@ kept_back first number catalog kept found apart is = at (first == number) refl i
     at true same is_ = absurd (apart (eqb-true first number same))
     at false off is_ = is_
 
+both_true : (a b : Bool) → (a && b) ≡ true → (a ≡ true) × (b ≡ true)
+both_true true true is = (refl, refl)
+both_true true false is = absurd cc
+both_true false b is = absurd cc
+
+kept_one_of : (catalog n : ℕ) (kept : Option Table) (key : Value) (was : Was)
+    → (n ≡ catalog) ⊎ MayReturnTo kept key was → (n ≡ catalog) ⊎ (is_some kept ≡ true)
+kept_one_of catalog n kept key was (inl same) = inl same
+kept_one_of catalog n kept key was (inr returns) = inr (has_kept kept key was returns)
+
+-- the first change of a key since a point found what is left there
+was_left : (point : Point) (deeds : List Deed) (name : List ℕ) (key : Value) → has_deed point deeds ≡ true
+    → has_change (changes_since point deeds) name key ≡ false
+    → was_in (changes_in deeds) name key ≡ was_in (changes_in (deeds_back point deeds)) name key
+was_left point [] name key there off = absurd (false≢true there)
+was_left LastMark (Changed c ∷ deeds) name key there off = at (is_at c name key) off
+  where
+    at : (b : Bool) → (if b then true else has_change (changes_since LastMark deeds) name key) ≡ false
+        → (if b then was_given c.row else was_in (changes_in deeds) name key)
+        ≡ was_in (changes_in (deeds_back LastMark deeds)) name key
+    at true off_ = absurd (false≢true (sym off_))
+    at false off_ = was_left LastMark deeds name key there off_
+was_left LastMark (Marked ∷ deeds) name key there off = refl
+was_left LastMark (Saved saved ∷ deeds) name key there off = was_left LastMark deeds name key there off
+was_left (SavepointNamed its) (Changed c ∷ deeds) name key there off = at (is_at c name key) off
+  where
+    at : (b : Bool) → (if b then true else has_change (changes_since (SavepointNamed its) deeds) name key) ≡ false
+        → (if b then was_given c.row else was_in (changes_in deeds) name key)
+        ≡ was_in (changes_in (deeds_back (SavepointNamed its) deeds)) name key
+    at true off_ = absurd (false≢true (sym off_))
+    at false off_ = was_left (SavepointNamed its) deeds name key there off_
+was_left (SavepointNamed its) (Marked ∷ deeds) name key there off = was_left (SavepointNamed its) deeds name key there off
+was_left (SavepointNamed its) (Saved saved ∷ deeds) name key there off = at (same_name its saved) there off
+  where
+    at : (b : Bool) → (b || has_deed (SavepointNamed its) deeds) ≡ true
+        → has_change (if b then [] else changes_since (SavepointNamed its) deeds) name key ≡ false
+        → was_in (changes_in deeds) name key ≡ was_in (changes_in (cond b (Saved saved ∷ deeds)
+        (deeds_back (SavepointNamed its) deeds))) name key
+    at true there_ off_ = refl
+    at false there_ off_ = was_left (SavepointNamed its) deeds name key there_ off_
+
+-- what was left of a key that was changed since a point may come back to the table that is kept
+returns_since : (catalog : ℕ) (written : List Table) (number : List ℕ → ℕ) (point : Point) (deeds : List Deed)
+    (name : List ℕ) (key : Value) → has_deed point deeds ≡ true
+    → has_change (changes_since point deeds) name key ≡ true → AreOfKept catalog written (changes_of number deeds)
+    → (number name ≡ catalog) ⊎ MayReturnTo (written_in written (number name)) key
+    (was_in (changes_in (deeds_back point deeds)) name key)
+returns_since catalog written number point [] name key there has_ are = absurd (false≢true has_)
+returns_since catalog written number LastMark (Changed c ∷ deeds) name key there has_ are =
+    on (has_change (changes_since LastMark deeds) name key) refl
+  where
+    here : has_change (changes_since LastMark deeds) name key ≡ false → (b : Bool) → is_at c name key ≡ b
+        → (if b then true else has_change (changes_since LastMark deeds) name key) ≡ true
+        → (number name ≡ catalog) ⊎ MayReturnTo (written_in written (number name)) key
+        (was_in (changes_in (deeds_back LastMark deeds)) name key)
+    here off false is it = absurd (false≢true (sym off ∙ it))
+    here off true is it =
+        let parts = both_true (same_name c.table name) (same_key c.key key) is in
+        subst (λ (w : Was). (number name ≡ catalog) ⊎ MayReturnTo (written_in written (number name)) key w)
+        (was_left LastMark deeds name key there off)
+        (subst (λ (k : Value). (number name ≡ catalog) ⊎ MayReturnTo (written_in written (number name)) k
+        (was_in (changes_in deeds) name k)) (same_from_same_key c.key key parts.1)
+        (subst (λ (n : List ℕ). (number n ≡ catalog) ⊎ MayReturnTo (written_in written (number n)) c.key
+        (was_in (changes_in deeds) n c.key)) (same_text c.table name (sym parts.0)) are.0))
+
+    on : (b : Bool) → has_change (changes_since LastMark deeds) name key ≡ b
+        → (number name ≡ catalog) ⊎ MayReturnTo (written_in written (number name)) key
+        (was_in (changes_in (deeds_back LastMark deeds)) name key)
+    on true later = returns_since catalog written number LastMark deeds name key there later are.1
+    on false off = here off (is_at c name key) refl has_
+returns_since catalog written number LastMark (Marked ∷ deeds) name key there has_ are = absurd (false≢true has_)
+returns_since catalog written number LastMark (Saved saved ∷ deeds) name key there has_ are =
+    returns_since catalog written number LastMark deeds name key there has_ are
+returns_since catalog written number (SavepointNamed its) (Changed c ∷ deeds) name key there has_ are =
+    on (has_change (changes_since (SavepointNamed its) deeds) name key) refl
+  where
+    here : has_change (changes_since (SavepointNamed its) deeds) name key ≡ false → (b : Bool) → is_at c name key ≡ b
+        → (if b then true else has_change (changes_since (SavepointNamed its) deeds) name key) ≡ true
+        → (number name ≡ catalog) ⊎ MayReturnTo (written_in written (number name)) key
+        (was_in (changes_in (deeds_back (SavepointNamed its) deeds)) name key)
+    here off false is it = absurd (false≢true (sym off ∙ it))
+    here off true is it =
+        let parts = both_true (same_name c.table name) (same_key c.key key) is in
+        subst (λ (w : Was). (number name ≡ catalog) ⊎ MayReturnTo (written_in written (number name)) key w)
+        (was_left (SavepointNamed its) deeds name key there off)
+        (subst (λ (k : Value). (number name ≡ catalog) ⊎ MayReturnTo (written_in written (number name)) k
+        (was_in (changes_in deeds) name k)) (same_from_same_key c.key key parts.1)
+        (subst (λ (n : List ℕ). (number n ≡ catalog) ⊎ MayReturnTo (written_in written (number n)) c.key
+        (was_in (changes_in deeds) n c.key)) (same_text c.table name (sym parts.0)) are.0))
+
+    on : (b : Bool) → has_change (changes_since (SavepointNamed its) deeds) name key ≡ b
+        → (number name ≡ catalog) ⊎ MayReturnTo (written_in written (number name)) key
+        (was_in (changes_in (deeds_back (SavepointNamed its) deeds)) name key)
+    on true later = returns_since catalog written number (SavepointNamed its) deeds name key there later are.1
+    on false off = here off (is_at c name key) refl has_
+returns_since catalog written number (SavepointNamed its) (Marked ∷ deeds) name key there has_ are =
+    returns_since catalog written number (SavepointNamed its) deeds name key there has_ are
+returns_since catalog written number (SavepointNamed its) (Saved saved ∷ deeds) name key there has_ are =
+    at (same_name its saved) there has_
+  where
+    at : (b : Bool) → (b || has_deed (SavepointNamed its) deeds) ≡ true
+        → has_change (if b then [] else changes_since (SavepointNamed its) deeds) name key ≡ true
+        → (number name ≡ catalog) ⊎ MayReturnTo (written_in written (number name)) key (was_in (changes_in
+        (cond b (Saved saved ∷ deeds) (deeds_back (SavepointNamed its) deeds))) name key)
+    at true there_ it = absurd (false≢true it)
+    at false there_ it = returns_since catalog written number (SavepointNamed its) deeds name key there_ it are
+
+told_returns : (catalog : ℕ) (written : List Table) (number : List ℕ → ℕ) (point : Point) (deeds : List Deed)
+    (name : List ℕ) (key : Value) → has_change (since_point point deeds) name key ≡ true
+    → AreOfKept catalog written (changes_of number deeds)
+    → (number name ≡ catalog) ⊎ MayReturnTo (written_in written (number name)) key
+    (was_in (changes_in (deeds_left point deeds)) name key)
+told_returns catalog written number point deeds name key has_ are = at (has_deed point deeds) refl has_
+  where
+    at : (b : Bool) → has_deed point deeds ≡ b → has_change (since_if b point deeds) name key ≡ true
+        → (number name ≡ catalog) ⊎ MayReturnTo (written_in written (number name)) key
+        (was_in (changes_in (cond b (deeds_back point deeds) deeds)) name key)
+    at true there it = returns_since catalog written number point deeds name key there it are
+    at false off it = absurd (false≢true it)
+
 -- the table of a change among deeds is the catalog, or kept
 told_there : (catalog : ℕ) (written : List Table) (number : List ℕ → ℕ) (deeds : List Deed) (name : List ℕ)
     (key : Value) → has_change (changes_in deeds) name key ≡ true
@@ -122,7 +251,8 @@ told_there catalog written number (Changed c ∷ deeds) name key has_ are =
         → (number name ≡ catalog) ⊎ (is_some (written_in written (number name)) ≡ true))
         → (number name ≡ catalog) ⊎ (is_some (written_in written (number name)) ≡ true)
     at true true same has_it later = subst (λ (n : List ℕ). (number n ≡ catalog)
-        ⊎ (is_some (written_in written (number n)) ≡ true)) (same_text c.table name (sym same)) are.0
+        ⊎ (is_some (written_in written (number n)) ≡ true)) (same_text c.table name (sym same)) (kept_one_of catalog (number c.table) (written_in written (number c.table)) c.key
+        (was_in (changes_in deeds) c.table c.key) are.0)
     at true false same has_it later = later has_it
     at false b off has_it later = later has_it
 told_there catalog written number (Marked ∷ deeds) name key has_ are =
@@ -185,6 +315,35 @@ module _ {D P : Type 0} (m : Meaning D) (known : KnownOfBacks D P m) (law : Keys
         at (inl same) = absurd (not_catalog (sym same))
         at (inr is) = is
 
+    -- and what was may come back to it
+    its_change : has_change (since_point point (deeds_by t.0 (steps o h))) c.table c.key ≡ true
+    its_change = rest_within m old.store.geometry.size o h e t.0 s shows.stands.shows.versions.speaker keys whole
+        taken.rest old.store at_core.store shows.image taken.image taken.steps c.table c.key taken.to_come.each.0
+
+    its_returns : (table : Table) → written_to works t.0 (stands.numbers t.0 c.table) ≡ Some table
+        → MayReturn table.shape c.key (was_in (own o (entry (back_event t point) Fine ∷ h) t.0) c.table c.key)
+    its_returns table kept = subst (λ (x : Option Table). MayReturnTo x c.key
+        (was_in (own o (entry (back_event t point) Fine ∷ h) t.0) c.table c.key))
+        (sym (ap (λ (w : Option Working). written_by w (stands.numbers t.0 c.table))
+        (begun_work m known old begun t point undo core has_begun o h stands shows)) ∙ kept)
+        (at (told_returns old.catalog.pointer.0 has_begun.its.0.written (stands.numbers t.0) point
+        (deeds_by t.0 (steps o h)) c.table c.key its_change kept_told))
+      where
+        left_is : deeds_by t.0 (steps o (entry (back_event t point) Fine ∷ h)) ≡ deeds_left point (deeds_by t.0 (steps o h))
+        left_is = deeds_after_entry o h (entry (back_event t point) Fine) t.0
+            ∙ (ap (λ (f : Effect). deeds_after f t.0 (catalog_of (told_by o h) t.0) (deeds_by t.0 (steps o h)))
+            (takes_back t point) ∙ rw (eq-eqb t.0 t.0 refl) refl)
+
+        at : (stands.numbers t.0 c.table ≡ old.catalog.pointer.0)
+            ⊎ MayReturnTo (written_in has_begun.its.0.written (stands.numbers t.0 c.table)) c.key
+            (was_in (changes_in (deeds_left point (deeds_by t.0 (steps o h)))) c.table c.key)
+            → MayReturnTo (written_in has_begun.its.0.written (stands.numbers t.0 c.table)) c.key
+            (was_in (own o (entry (back_event t point) Fine ∷ h) t.0) c.table c.key)
+        at (inl same) = absurd (not_catalog (sym same))
+        at (inr returns) = subst (λ (ds : List Deed).
+            MayReturnTo (written_in has_begun.its.0.written (stands.numbers t.0 c.table)) c.key
+            (was_in (changes_in ds) c.table c.key)) (sym left_is) returns
+
     -- so it is not taken back by a fault that is no damage
     fault_stays : (after : Core D) (fault : SpaceFault) (table : Table)
         → written_to works t.0 (stands.numbers t.0 c.table) ≡ Some table
@@ -197,7 +356,8 @@ module _ {D P : Type 0} (m : Meaning D) (known : KnownOfBacks D P m) (law : Keys
         shows.stands.shows taken.image (asked_in (with_work t.0 unasked old.works)) (sessions_in old.works)
         taken.midway shows.stands.memory has_begun.continues.1 old.catalog.pointer.0 works
         (kept_begun m known old begun t point undo core has_begun o h stands shows) taken.knows c taken.to_come.each.0
-        of.made table kept (was_in (own o (entry (back_event t point) Fine ∷ h) t.0) c.table c.key) it fails)
+        of.made table kept (was_in (own o (entry (back_event t point) Fine ∷ h) t.0) c.table c.key)
+        (its_returns table kept) it fails)
     fault_stays after (faults.Pool (pool_faults.DiskRead n)) table kept fails shortages counts = counts.0
     fault_stays after (faults.Pool (pool_faults.DiskWrite n)) table kept fails shortages counts = counts.0
     fault_stays after (faults.Pool (pool_faults.Offline n)) table kept fails shortages counts = counts.0

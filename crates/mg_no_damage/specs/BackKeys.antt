@@ -7,6 +7,7 @@ use Rattle.mg_base.specs.declared.transaction.TxState.{TxState}
 use Rattle.mg_base.specs.declared.transaction.TxState.TheVariants.{Active}
 use Rattle.mg_engine_changes.specs.Takings.{KnowsCache}
 use Rattle.mg_engine_changes.specs.TakingSteps.{StandsMidway}
+use Rattle.mg_engine_meaning.specs.Formers.{MayReturn}
 use Rattle.mg_engine_meaning.specs.Standings.{KeepsWritten}
 use Rattle.mg_engine_steps.specs.Standing.{Remembers, ShowsHistory, Standing}
 use Rattle.mg_image.specs.Form.{Pages, packed_form}
@@ -28,7 +29,7 @@ use Rattle.mg_value.specs.declared.value.Value.{Value}
 use Rattle.mg_works.specs.Works.{Working, written_to}
 
 -- in the middle of a way back, the key of a change that is still to be taken back, in a table that the transaction keeps
--- under the number of its name: no page is found damaged
+-- under the number of its name, and to which what was may come back: no page is found damaged, and what was fits
 abbrev pub KeysMeetNoDamage : (D : Type 0) → Meaning D → Type 0
 KeysMeetNoDamage D m = (size : ℕ) (o : Opening) (h : Entries) (e : Entry) (t : ℕ) (whole left : List Change)
     (s : Standing) (start before after : Pool D FireLinks) (begun : Pages)
@@ -37,7 +38,8 @@ KeysMeetNoDamage D m = (size : ℕ) (o : Opening) (h : Entries) (e : Entry) (t :
     → s.state t ≡ Active → (catalog : ℕ) (works : List Working) → KeepsWritten catalog works s.table
     → KnowsCache m size s before i → (c : Change) → has_change left c.table c.key ≡ true
     → has_change (own o h t) c.table c.key ≡ true → (table : Table)
-    → written_to works t (s.number t c.table) ≡ Some table → (was : Was) (it : Damaged)
+    → written_to works t (s.number t c.table) ≡ Some table → (was : Was) → MayReturn table.shape c.key was
+    → (it : Damaged)
     → FailsKey m before after s.state s.live t table c.key was (faults.Damaged it) → ⊥
 
 -- and none is wanting in the cache

@@ -84,16 +84,16 @@ pub record ReplacesBy {D : Type 0} (m : Meaning D) (before after : Pool D FireLi
   pub may : MayBeStored before.geometry.size table.pointer.0 version
   pub replaces : ReplacesNewest m before after rec version
 
--- Why it is not: the row does not fit the table or a page, which no lawful engine meets, and which is told as want of
--- memory, since what was is kept there alone; memory is wanting; or the pages are refused.
+-- Why it is not: the row does not fit the table or a page, which no lawful engine meets; memory is wanting; or the pages
+-- are refused.
 pub data FailsReplacingBy {D : Type 0} (m : Meaning D) (before after : Pool D FireLinks) (t : ℕ) (table : Table)
     (rec : RecId) (write : Write) (fault : SpaceFault) : Type 0 where
-  former_unfit : (FitsShape table.shape write → ⊥) → fault ≡ faults.Pool pool_faults.Memory → after ≡ before
+  former_unfit : (FitsShape table.shape write → ⊥) → fault ≡ faults.Damaged not_lawful → after ≡ before
       → FailsReplacingBy m before after t table rec write fault
   former_memory : fault ≡ faults.Pool pool_faults.Memory → after ≡ before
       → FailsReplacingBy m before after t table rec write fault
   former_long : (v : Version) → IsStored table t write v
-      → (MayBeStored before.geometry.size table.pointer.0 v → ⊥) → fault ≡ faults.Pool pool_faults.Memory
+      → (MayBeStored before.geometry.size table.pointer.0 v → ⊥) → fault ≡ faults.Damaged not_lawful
       → after ≡ before → FailsReplacingBy m before after t table rec write fault
   former_not_put : (v : Version) → IsStored table t write v → MayBeStored before.geometry.size table.pointer.0 v
       → FailsReplacing m before after rec v fault → FailsReplacingBy m before after t table rec write fault
@@ -124,11 +124,11 @@ pub record TakesKey {D : Type 0} (m : Meaning D) (before after : Pool D FireLink
       → IsOwnAt state live t (shown before.dirty image) table key rec
   pub puts : PutsBack m ready after t table rec (former key was)
 
--- It is not: what was may not come back, which no lawful engine meets, and which is told as want of memory; the record is
--- not found, and pages were only read; or what was does not come back.
+-- It is not: what was may not come back, which no lawful engine meets; the record is not found, and pages were only read;
+-- or what was does not come back.
 pub data FailsKey {D : Type 0} (m : Meaning D) (before after : Pool D FireLinks) (state : ℕ → TxState)
     (live : State) (t : ℕ) (table : Table) (key : Value) (was : Was) (fault : SpaceFault) : Type 0 where
-  key_unfit : (MayComeBack table.shape key was → ⊥) → fault ≡ faults.Pool pool_faults.Memory → after ≡ before
+  key_unfit : (MayComeBack table.shape key was → ⊥) → fault ≡ faults.Damaged not_lawful → after ≡ before
       → FailsKey m before after state live t table key was fault
   key_unread : KeepsStore m before after → ReadsData {T = Unit {0}} (Err fault)
       → TellsFault m before after (pool_answer {T = Unit {0}} (Err fault))

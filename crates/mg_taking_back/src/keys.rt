@@ -177,8 +177,8 @@ fn former(key: Key, was: Was) -> Option<Write>
 ///
 /// # Errors
 ///
-/// `Memory`, also where the row does not fit the table or a page, which no engine meets: what was is kept in memory alone,
-/// so that no page is damaged then; as `replace_newest`.
+/// `Memory`; `Damaged` by `unlawful` where the row does not fit the table or a page, which no lawful engine meets; as
+/// `replace_newest`.
 fn replace_by<D: Disk>(
     store: &mut Store<D>,
     table: &Table,
@@ -196,14 +196,14 @@ fn replace_by<D: Disk>(
         (FailsReplacingBy D.meaning store.old store.new t.0 table.now rec write.now) }
 {
     if !fits(&table.shape, write) {
-        return Err(SpaceFault::Pool(PoolFault::Memory));
+        return Err(SpaceFault::Damaged(unlawful()));
     }
     let version = match stored_version(store.alloc(), table, t, write) {
         Ok(version) => version,
         Err(_) => return Err(SpaceFault::Pool(PoolFault::Memory)),
     };
     if !may_be_stored(store.geometry().size, table.pointer, &version) {
-        return Err(SpaceFault::Pool(PoolFault::Memory));
+        return Err(SpaceFault::Damaged(unlawful()));
     }
     replace_newest(store, rec, &version)
 }
@@ -239,7 +239,7 @@ fn put_back<D: Disk>(
 ///
 /// # Errors
 ///
-/// `Memory` where what was may not come back, which no engine meets, as in `replace_by`; as `own_at`, and as `put_back`.
+/// `Damaged` by `unlawful` where what was may not come back, which no lawful engine meets; as `own_at`, and as `put_back`.
 pub fn take_in<D: Disk, S: States>(
     store: &mut Store<D>,
     table: &Table,
@@ -260,7 +260,7 @@ pub fn take_in<D: Disk, S: States>(
         (FailsKey D.meaning store.old store.new (S.state_of states.now) live.now t.0 table.now key was) }
 {
     if !may_come_back(&table.shape, key.value(), &was) {
-        return Err(SpaceFault::Pool(PoolFault::Memory));
+        return Err(SpaceFault::Damaged(unlawful()));
     }
     let rec = own_at(store, table, key.value(), states, live, t)?;
     put_back(store, table, t, rec, former(key, was))

@@ -1,7 +1,9 @@
-use Rattle.std.proofs.Common.{refl, subst, sym, ◌∙◌}
+use Rattle.std.proofs.Common.{ap, refl, subst, sym, ◌∙◌}
 use Rattle.std.proofs.lemmas.Bool.{false≢true}
+use Rattle.mg_base.specs.declared.damage.Damaged.{Damaged}
 use Rattle.mg_base.specs.declared.numbers.RecId.{RecId}
 use Rattle.mg_pool.specs.Pool.{shown}
+use Rattle.mg_space.specs.declared.fault.SpaceFault.TheVariants as faults
 use Rattle.mg_value.specs.declared.value.Value.{Value}
 use Rattle.mg_taking_back.specs.Formers.{MayComeBack}
 use Rattle.mg_taking_back.specs.Keys.{FailsKey, IsOwnAt, RefusesOwnAt, key_unfit, key_unread}
@@ -13,7 +15,7 @@ pub returns-then-not-may_come_back-clause-takes : goal.returns-then-not-may_come
 returns-then-not-may_come_back-clause-takes g c = key_unfit
     (λ may. false≢true (sym c.if-not-may_come_back.true ∙ c.may_come_back.ensures.1
     (subst (λ (k : Value). MayComeBack c.args.table.now.shape k c.args.was) (sym c.value.ensures.value) may)))
-    refl refl
+    (ap (λ (it : Damaged). faults.Damaged it) c.unlawful.ensures) refl
 
 pub returns-in_err-rec-clause-takes : goal.returns-in_err-rec-clause-takes
 returns-in_err-rec-clause-takes g c = handed_on c.from_residual.result c.in_err-rec.field-0.0 _
