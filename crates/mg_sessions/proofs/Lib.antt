@@ -1,6 +1,3 @@
-mod GoLemmas
-mod StatementLemmas
 mod BeginLemmas
 mod OwnLemmas
-mod HoldingLemmas
 mod TendingLemmas

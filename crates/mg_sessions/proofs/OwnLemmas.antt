@@ -38,7 +38,7 @@ use Rattle.mg_sessions.specs.Accounts.{Accounts}
 use Rattle.mg_sessions.specs.AccountLaws.{account_after, account_of}
 use Rattle.mg_sessions.specs.Coming.{ComesTo}
 use Rattle.mg_sessions.specs.Own.{BeginsNone, BeginsOne, OWN, is_refused, one_still}
-use Rattle.mg_sessions.proofs.GoLemmas.{step_others_ready, step_others_stand}
+use Rattle.mg_sessions.specs.GoLaws.{step_others_ready, step_others_stand}
 
 -- no statement is of this session, which has no letter
 pub own_idle : {R P Run : Type 0} (m : Means R P) (runs : RunMeans R Run) (r : R) (all : List (Option Transaction))

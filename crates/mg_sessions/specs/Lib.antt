@@ -4,3 +4,6 @@ pub mod Coming
 pub mod Own
 pub mod Lines
 pub mod Moves
+pub mod GoLaws
+pub mod HoldingLaws
+pub mod StatementLaws

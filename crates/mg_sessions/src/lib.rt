@@ -2,12 +2,13 @@
 //! which statements that waited go on.
 //!
 //! Owns: `obey`, which does what a line itself does, and `resume`, by which a statement goes on whose
-//! waiting is over.
+//! waiting is over. Who obeys lines step by step finds the beginning of one in `read`, `begin` and `hold_own`.
 //!
 //! What is done is said by `mg_transcript` (`Does`, `Runs`): for each history that the
 //! keeper stood for and each list of unfinished statements with which the sessions agreed (`StandAt` of
 //! `mg_pending`). No crash loses what was durable before (`Carries` of `mg_courses`), and a refusal that
-//! is answered has its cause in the keeper's counts (`specs/Accounts`).
+//! is answered has its cause in the keeper's counts (`specs/Accounts`). What the steps of one statement leave of
+//! all others follows by `GoLaws`, `HoldingLaws` and `StatementLaws`.
 //!
 //! Where memory is short before anything is done, a line says so. Room for a statement that has to wait
 //! is made before it begins, so that a statement that was told to wait is always kept.
@@ -26,3 +27,4 @@ mod tending;
 
 pub use holding::resume;
 pub use line::obey;
+pub use statements::{begin, hold_own, read};

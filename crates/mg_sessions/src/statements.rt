@@ -105,8 +105,12 @@ where
     }
 }
 
-// Reads the text of a session that has no unfinished statement.
-fn read<P>(
+/// Reads the text of a session that has no unfinished statement.
+///
+/// # Errors
+///
+/// `Busy` where it has one; else the fault of the text, or `Memory`.
+pub fn read<P>(
     alloc: Global,
     pending: &Vec<Pending<P>>,
     session: Session,
@@ -125,8 +129,8 @@ fn read<P>(
     }
 }
 
-// Begins a transaction of a session, which has no unfinished statement.
-fn begin<R: Statements>(
+/// Begins a transaction of a session, which has no unfinished statement.
+pub fn begin<R: Statements>(
     r: &mut R,
     sessions: &mut Sessions<R::Run>,
     session: Session,
@@ -210,8 +214,8 @@ where
     }
 }
 
-// Begins a statement of a session's transaction, which has no unfinished one, and holds it.
-fn hold_own<R: Statements>(
+/// Begins a statement of a session's transaction, which has no unfinished one, and holds it.
+pub fn hold_own<R: Statements>(
     r: &mut R,
     alloc: Global,
     sessions: &mut Sessions<R::Run>,

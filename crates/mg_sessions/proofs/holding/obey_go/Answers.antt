@@ -8,8 +8,8 @@ use Rattle.mg_transcript.specs.Courses.{Later}
 use Rattle.mg_transcript.specs.Lines.{Does, goes_none, goes_on}
 use Rattle.mg_transcript.specs.Steps.{Runs}
 use Rattle.mg_pending.specs.AgreeLaws.{holds_it, holds_none, split_at}
-use Rattle.mg_sessions.proofs.HoldingLemmas.{kept_for, some_one}
-use Rattle.mg_sessions.proofs.StatementLemmas.{kept_does, stays_so}
+use Rattle.mg_sessions.specs.HoldingLaws.{kept_for, some_one}
+use Rattle.mg_sessions.specs.StatementLaws.{kept_does, stays_so}
 use Rattle.mg_sessions.proofs.holding.obey_go.Goals as goal
 
 pub returns-in-None-clause-does : goal.returns-in-None-clause-does

@@ -15,9 +15,9 @@ use Rattle.mg_pending.specs.AgreeLaws.{holds_it, holds_none, split_at}
 use Rattle.mg_pending.specs.StandingLaws.{live_is_active}
 use Rattle.mg_pending.specs.Statements.{has_statement, transactions_after, pending_after, reply_of_step}
 use Rattle.mg_pending.specs.Transactions.{number_at}
-use Rattle.mg_sessions.proofs.GoLemmas.{step_ready}
-use Rattle.mg_sessions.proofs.HoldingLemmas.{held_session, kept_for, left_idle, left_ready, left_stand, some_one, taken_at, taken_can, taken_transaction}
-use Rattle.mg_sessions.proofs.StatementLemmas.{comes_as, kept_does, ready_as, stays_so, went}
+use Rattle.mg_sessions.specs.GoLaws.{step_ready}
+use Rattle.mg_sessions.specs.HoldingLaws.{held_session, kept_for, left_idle, left_ready, left_stand, some_one, taken_at, taken_can, taken_transaction}
+use Rattle.mg_sessions.specs.StatementLaws.{comes_as, kept_does, ready_as, stays_so, went}
 use Rattle.mg_sessions.proofs.holding.obey_step.Goals as goal
 
 pub take-stepped-requires-clause-ready : goal.take-stepped-requires-clause-ready

@@ -6,8 +6,8 @@ use Rattle.mg_transcript.specs.Steps.{Runs}
 use Rattle.mg_pending.specs.declared.transactions.Transaction.{Transaction}
 use Rattle.mg_pending.specs.Statements.{has_statement}
 use Rattle.mg_pending.specs.Transactions.{number_at}
-use Rattle.mg_sessions.proofs.HoldingLemmas.{kept_for, left_idle, left_ready, left_stand, stand_as, taken_at, taken_can, taken_session, taken_transaction}
-use Rattle.mg_sessions.proofs.StatementLemmas.{ready_as}
+use Rattle.mg_sessions.specs.HoldingLaws.{kept_for, left_idle, left_ready, left_stand, stand_as, taken_at, taken_can, taken_session, taken_transaction}
+use Rattle.mg_sessions.specs.StatementLaws.{ready_as}
 use Rattle.mg_sessions.proofs.holding.resume.Goals as goal
 
 pub go_on-requires-clause-ready : goal.go_on-requires-clause-ready

@@ -4,7 +4,7 @@ use Rattle.mg_rows.specs.declared.outcome.Outcome.TheVariants as outcomes
 use Rattle.mg_script.specs.declared.line.LineKind.TheVariants as kinds
 use Rattle.mg_script.specs.declared.reply.Reply.TheVariants as replies
 use Rattle.mg_transcript.specs.Lines.{Does, silent, bad}
-use Rattle.mg_sessions.proofs.StatementLemmas.{stays_so}
+use Rattle.mg_sessions.specs.StatementLaws.{stays_so}
 use Rattle.mg_sessions.proofs.line.obey.Goals as goal
 
 pub returns-in-Silent-clause-does : goal.returns-in-Silent-clause-does

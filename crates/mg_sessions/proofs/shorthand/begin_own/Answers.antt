@@ -12,7 +12,7 @@ use Rattle.mg_sessions.specs.AccountLaws.{no_account}
 use Rattle.mg_sessions.specs.Coming.{ComesTo}
 use Rattle.mg_sessions.specs.Own.{BeginsNone, BeginsOne, OWN, is_refused, one_still}
 use Rattle.mg_sessions.proofs.BeginLemmas.{begun_account, begun_all_ready, begun_comes, refused_account, refused_comes, refused_ready}
-use Rattle.mg_sessions.proofs.StatementLemmas.{stays_so}
+use Rattle.mg_sessions.specs.StatementLaws.{stays_so}
 use Rattle.mg_sessions.proofs.shorthand.begin_own.Goals as goal
 
 pub begin-requires-clause-free : goal.begin-requires-clause-free

@@ -17,7 +17,7 @@ use Rattle.mg_pending.specs.Transactions.{number_in}
 use Rattle.mg_sessions.specs.Accounts.{Accounts}
 use Rattle.mg_sessions.specs.Own.{OWN, begun_with}
 use Rattle.mg_sessions.proofs.OwnLemmas.{none_begun, own_account, own_comes, own_ready}
-use Rattle.mg_sessions.proofs.StatementLemmas.{comes_as, ready_as}
+use Rattle.mg_sessions.specs.StatementLaws.{comes_as, ready_as}
 use Rattle.mg_sessions.proofs.shorthand.obey_get.Goals as goal
 
 pub get-ending-requires : goal.get-ending-requires

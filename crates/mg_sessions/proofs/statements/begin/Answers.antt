@@ -12,7 +12,7 @@ use Rattle.mg_pending.specs.AgreeLaws.{same_busy}
 use Rattle.mg_pending.specs.BeginLaws.{begun_one}
 use Rattle.mg_pending.specs.Transactions.{number_in}
 use Rattle.mg_sessions.proofs.BeginLemmas.{begun_all_ready, begun_comes, refused_comes, refused_ready}
-use Rattle.mg_sessions.proofs.StatementLemmas.{comes_as, ready_as, stays_so, within}
+use Rattle.mg_sessions.specs.StatementLaws.{comes_as, ready_as, stays_so, within}
 use Rattle.mg_sessions.proofs.statements.begin.Goals as goal
 
 pub returns-in-Some-clause-does : goal.returns-in-Some-clause-does

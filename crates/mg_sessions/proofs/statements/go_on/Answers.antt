@@ -7,8 +7,8 @@ use Rattle.mg_courses.specs.BesideLaws.{works_stay_at, works_stay_ready}
 use Rattle.mg_pending.specs.Statements.{transactions_after, pending_after, reply_of_step}
 use Rattle.mg_pending.specs.StandingLaws.{live_is_active}
 use Rattle.mg_sessions.specs.Coming.{IsKept}
-use Rattle.mg_sessions.proofs.GoLemmas.{step_ready}
-use Rattle.mg_sessions.proofs.StatementLemmas.{comes_as, ready_as, went}
+use Rattle.mg_sessions.specs.GoLaws.{step_ready}
+use Rattle.mg_sessions.specs.StatementLaws.{comes_as, ready_as, went}
 use Rattle.mg_sessions.proofs.statements.go_on.Goals as goal
 
 pub returns-clause-does : goal.returns-clause-does

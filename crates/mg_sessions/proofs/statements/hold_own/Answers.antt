@@ -15,8 +15,8 @@ use Rattle.mg_pending.specs.AgreeLaws.{same_busy}
 use Rattle.mg_pending.specs.StandingLaws.{live_is_active}
 use Rattle.mg_pending.specs.Statements.{transactions_after, pending_after, reply_of_step}
 use Rattle.mg_pending.specs.Transactions.{number_in}
-use Rattle.mg_sessions.proofs.GoLemmas.{step_others_ready, step_ready}
-use Rattle.mg_sessions.proofs.StatementLemmas.{begun_done, comes_as, ended_so, kept_does, ready_as, stays_so, went}
+use Rattle.mg_sessions.specs.GoLaws.{step_others_ready, step_ready}
+use Rattle.mg_sessions.specs.StatementLaws.{begun_done, comes_as, ended_so, kept_does, ready_as, stays_so, went}
 use Rattle.mg_sessions.proofs.statements.hold_own.Goals as goal
 
 pub returns-in-None-clause-does : goal.returns-in-None-clause-does

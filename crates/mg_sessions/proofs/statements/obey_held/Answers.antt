@@ -2,7 +2,7 @@ use Rattle.mg_script.specs.declared.line.LineKind.TheVariants as kinds
 use Rattle.mg_script.specs.declared.reply.Reply.TheVariants.{No}
 use Rattle.mg_statements.specs.Plain.{plain_of}
 use Rattle.mg_transcript.specs.Lines.{Does, declines_held}
-use Rattle.mg_sessions.proofs.StatementLemmas.{declined, stays_so, takes_no_begin}
+use Rattle.mg_sessions.specs.StatementLaws.{declined, stays_so, takes_no_begin}
 use Rattle.mg_sessions.proofs.statements.obey_held.Goals as goal
 
 pub hold_own-requires-clause-other : goal.hold_own-requires-clause-other

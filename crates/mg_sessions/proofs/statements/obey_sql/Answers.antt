@@ -4,7 +4,7 @@ use Rattle.mg_script.specs.declared.reply.Reply.TheVariants.{No}
 use Rattle.mg_sql.specs.Answers.{Parses}
 use Rattle.mg_statements.specs.Plain.{Plain, plain_of}
 use Rattle.mg_transcript.specs.Lines.{Does, declines}
-use Rattle.mg_sessions.proofs.StatementLemmas.{declined, stays_so}
+use Rattle.mg_sessions.specs.StatementLaws.{declined, stays_so}
 use Rattle.mg_sessions.proofs.statements.obey_sql.Goals as goal
 
 pub returns-in-Err-clause-does : goal.returns-in-Err-clause-does

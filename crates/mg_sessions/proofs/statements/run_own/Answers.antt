@@ -12,9 +12,9 @@ use Rattle.mg_pending.specs.AgreeLaws.{same_busy}
 use Rattle.mg_pending.specs.StandingLaws.{live_is_active}
 use Rattle.mg_pending.specs.Statements.{transactions_after}
 use Rattle.mg_pending.specs.Transactions.{number_in}
-use Rattle.mg_sessions.proofs.GoLemmas.{step_others_ready}
-use Rattle.mg_sessions.proofs.HoldingLemmas.{stand_as}
-use Rattle.mg_sessions.proofs.StatementLemmas.{comes_as, ended_so, ran, ready_as, stays_so}
+use Rattle.mg_sessions.specs.GoLaws.{step_others_ready}
+use Rattle.mg_sessions.specs.HoldingLaws.{stand_as}
+use Rattle.mg_sessions.specs.StatementLaws.{comes_as, ended_so, ran, ready_as, stays_so}
 use Rattle.mg_sessions.proofs.statements.run_own.Goals as goal
 
 pub returns-in-None-clause-does : goal.returns-in-None-clause-does

@@ -41,7 +41,7 @@ use Rattle.mg_pending.specs.Standing.{Agree, StandAt, AreReady}
 use Rattle.mg_pending.specs.StandingLaws.{reply_is}
 use Rattle.mg_sessions.specs.Coming.{ComesTo, IsKept}
 use Rattle.mg_sessions.specs.Lines.{IsTextFault}
-use Rattle.mg_sessions.proofs.GoLemmas.{step_stand, step_others_stand}
+use Rattle.mg_sessions.specs.GoLaws.{step_stand, step_others_stand}
 
 -- nothing is done
 pub stays_so : {R P Run : Type 0} (m : Means R P) (runs : RunMeans R Run) → CrashesHold m → (r : R)
