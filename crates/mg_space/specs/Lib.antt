@@ -9,3 +9,4 @@ pub mod Taking
 pub mod TakingLaws
 pub mod View
 pub mod ViewLaws
+pub mod WholeLaws
