@@ -1,4 +1,6 @@
 -- How the refusals of the reading of a version are handed on.
+use Rattle.mg_heap.specs.Reading.{RefusesData}
+use Rattle.mg_base.specs.declared.numbers.RecId.{RecId}
 use Rattle.std.specs.Prelude.{◌≡◌, ℕ, ◌≤◌, ◌-◌, List, Option, Result, Ok, Err, IsErr, IsErrAnd, MatchResult}
 use Rattle.std.proofs.Common.{◌∙◌, sym, ap, subst, inl, inr, arith}
 use Rattle.mg_base.specs.Disk.{Meaning}
@@ -68,3 +70,11 @@ module _ {D L : Type 0} (m : Meaning D) (store : Pool D L) (pages : List BatchPa
       let Q : Option Cell → Type 0 = λ cell. IsOfOther l.tx.0 cell in
       inr (subst P (sym (damage_is ∙ ap (λ (cell : Option Cell).
       damage l.rec.page.0 fields.Target (writer_in cell) l.tx.0) is)) (target (subst Q is other)))
+
+-- why the cell of a place is not read: its page is not
+pub data_refuses : {D L : Type 0} (m : Meaning D) (store : Pool D L) (pages : List BatchPage) (view : Pages)
+    (at : RecId) (fault : SpaceFault) → RefusesData m store pages at.page (view at.page.0) fault
+    → RefusesCellAt m store pages view at fault
+data_refuses m store pages view at (faults.Full most) refuses = refuses
+data_refuses m store pages view at (faults.Damaged it) refuses = inl refuses
+data_refuses m store pages view at (faults.Pool fault) refuses = tt

@@ -108,10 +108,6 @@ whole_freed g old new page (Ok x) whole below changes same = whole_at_most g old
 whole_freed g old new page (Err fault) whole below changes same =
     subst (λ (b : Changed). AreWhole g b.pages) (sym same) whole
 
-pub whole_as : (g h : Geometry) (pages : List BatchPage) → g ≡ h → AreWhole g pages
-    → AreWhole h pages
-whole_as g h pages same whole = subst (λ (k : Geometry). AreWhole k pages) same whole
-
 -- ---- the slot is turned, and then the cell freed
 
 module _ {D L : Type 0} (m : Meaning D) (a b : Pool D L) (kept : KeepsStore m a b) (image : Image) where

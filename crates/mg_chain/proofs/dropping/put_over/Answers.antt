@@ -1,4 +1,7 @@
-use Rattle.mg_space.specs.View.{viewed}
+use Rattle.mg_heap.specs.ChangingLaws.{whole_where}
+use Rattle.mg_pool.specs.Batch.{Changed}
+use Rattle.std.proofs.Common.{subst, sym}
+use Rattle.mg_space.specs.View.{viewed, AreWhole}
 use Rattle.mg_chain.specs.Dropping.{RefusesPutOver}
 use Rattle.mg_chain.proofs.DropLemmas.{no_put, put_data}
 use Rattle.mg_chain.proofs.Steps.{handed_on}
@@ -31,3 +34,18 @@ returns-clause-puts g c = λ image tells. record {
       c.in_ok-bytes.bytes.items c.in_ok-placed.placed c.if-not-placed.false c.deref.ensures.value
       c.in_ok-placed.ensures.changes (c.in_ok-placed.ensures.places image tells);
 }
+
+pub returns-in_err-placed-clause-whole : goal.returns-in_err-placed-clause-whole
+returns-in_err-placed-clause-whole g c = 
+    subst (λ (b : Changed). AreWhole c.args.store.now.geometry b.pages)
+    (sym c.in_err-placed.ensures.same) c.requires.whole
+
+pub returns-then-not-placed-clause-whole : goal.returns-then-not-placed-clause-whole
+returns-then-not-placed-clause-whole g c = whole_where c.args.store.now.geometry c.args.batch.now
+    c.place.new.batch c.args.at.page.0 c.in_ok-placed.placed c.requires.whole
+    c.in_ok-placed.ensures.below c.in_ok-placed.ensures.changes
+
+pub returns-clause-whole : goal.returns-clause-whole
+returns-clause-whole g c = whole_where c.args.store.now.geometry c.args.batch.now
+    c.place.new.batch c.args.at.page.0 c.in_ok-placed.placed c.requires.whole
+    c.in_ok-placed.ensures.below c.in_ok-placed.ensures.changes

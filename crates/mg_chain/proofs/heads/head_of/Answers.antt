@@ -1,3 +1,4 @@
+use Rattle.mg_space.specs.WholeLaws.{whole_kept}
 use Rattle.std.proofs.Common.{◌∙◌}
 use Rattle.mg_image.specs.Form.{Pages}
 use Rattle.mg_space.specs.HandedLaws.{fault_up}
@@ -74,3 +75,9 @@ returns-clause-fault g c = (
   c.in_ok-owner.ensures.fault.1,
   c.in_ok-owner.ensures.fault.2 ∙ c.in_ok-cell_at.ensures.fault.2,
 )
+
+pub owner_of-requires-clause-whole : goal.owner_of-requires-clause-whole
+owner_of-requires-clause-whole g c = whole_kept g.D.Disk.meaning c.args.store.now
+    c.cell_at.new.store c.args.batch.now.pages
+    c.in_ok-cell_at.ensures.keeps
+    c.requires.whole

@@ -1,3 +1,4 @@
+use Rattle.mg_space.specs.WholeLaws.{whole_kept}
 use Rattle.std.proofs.Common.{◌∙◌, Err, Ok}
 use Rattle.mg_space.specs.HandedLaws.{fault_up}
 use Rattle.mg_space.specs.View.{viewed}
@@ -61,3 +62,9 @@ returns-clause-fault g c = (
   c.in_ok-version.ensures.fault.1,
   c.in_ok-version.ensures.fault.2 ∙ c.in_ok-head.ensures.fault.2,
 )
+
+pub version_at-requires-clause-whole : goal.version_at-requires-clause-whole
+version_at-requires-clause-whole g c = whole_kept g.D.Disk.meaning c.args.store.now
+    c.head_of.new.store c.args.batch.now.pages
+    c.in_ok-head.ensures.keeps
+    c.requires.whole

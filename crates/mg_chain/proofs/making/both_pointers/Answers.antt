@@ -1,3 +1,4 @@
+use Rattle.mg_space.specs.WholeLaws.{whole_kept}
 use Rattle.std.specs.declared.alloc.Global.{Global}
 use Rattle.std.specs.declared.vec.Vec.{Vec}
 use Rattle.std.proofs.Common.{◌⊎◌, ◌∙◌, inl, inr, ℕ}
@@ -64,3 +65,9 @@ returns-clause-fault g c = (
   c.in_ok-slot_pointers.ensures.fault.1,
   c.in_ok-slot_pointers.ensures.fault.2 ∙ c.in_ok-pointers.ensures.fault.2,
 )
+
+pub pointers_to-requires-2-clause-whole : goal.pointers_to-requires-2-clause-whole
+pointers_to-requires-2-clause-whole g c = whole_kept g.D.Disk.meaning c.args.store.now
+    c.pointers_to.new.store c.args.batch.now.pages
+    c.in_ok-pointers.ensures.keeps
+    c.requires.whole

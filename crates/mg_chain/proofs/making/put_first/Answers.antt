@@ -1,3 +1,4 @@
+use Rattle.mg_space.specs.WholeLaws.{whole_kept}
 use Rattle.std.proofs.Common.{◌⊎◌, ◌∙◌}
 use Rattle.mg_image.specs.Form.{Pages}
 use Rattle.mg_space.specs.HandedLaws.{fault_up}
@@ -59,3 +60,9 @@ returns-clause-fault g c = (
   c.in_ok-both.ensures.fault.1,
   c.in_ok-both.ensures.fault.2 ∙ c.in_ok-at.ensures.fault.2,
 )
+
+pub both_pointers-requires-clause-whole : goal.both_pointers-requires-clause-whole
+both_pointers-requires-clause-whole g c = whole_kept g.D.Disk.meaning c.args.store.now
+    c.add_apart.new.store c.add_apart.new.batch.pages
+    c.in_ok-at.ensures.keeps
+    c.in_ok-at.ensures.whole

@@ -1,3 +1,4 @@
+use Rattle.mg_space.specs.WholeLaws.{whole_kept}
 use Rattle.std.proofs.Common.{◌∙◌, ℕ}
 use Rattle.mg_image.specs.Form.{Pages}
 use Rattle.mg_space.specs.HandedLaws.{fault_up}
@@ -58,3 +59,9 @@ returns-clause-fault g c = (
   c.in_ok-slot.ensures.fault.1,
   c.in_ok-slot.ensures.fault.2 ∙ c.in_ok-page.ensures.fault.2,
 )
+
+pub least_slot-requires-clause-whole : goal.least_slot-requires-clause-whole
+least_slot-requires-clause-whole g c = whole_kept g.D.Disk.meaning c.args.store.now
+    c.page_with_room.new.store c.page_with_room.new.batch.pages
+    c.in_ok-page.ensures.keeps
+    c.in_ok-page.ensures.whole

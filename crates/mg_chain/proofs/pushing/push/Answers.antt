@@ -1,9 +1,9 @@
+use Rattle.mg_space.specs.WholeLaws.{whole_kept, whole_as}
 use Rattle.std.proofs.Common.{refl}
 use Rattle.mg_pool.specs.declared.fault.PoolFault.TheVariants as pool_faults
 use Rattle.mg_space.specs.ViewLaws.{tells_on, keeps_on, fault_on}
 use Rattle.mg_space.specs.declared.fault.SpaceFault.TheVariants as faults
 use Rattle.mg_space.specs.View.{pool_answer}
-use Rattle.mg_chain.proofs.TurnLemmas.{whole_as}
 use Rattle.mg_chain.specs.WritingRefusals.{RefusesPush, pushed_memory, pushed_head}
 use Rattle.mg_chain.proofs.PushLemmas.{pushed}
 use Rattle.mg_chain.proofs.Steps.{handed_on}
@@ -46,3 +46,9 @@ returns-clause-fault g c = fault_on g.D.Disk.meaning c.args.store.now c.head_of.
 pub returns-clause-whole : goal.returns-clause-whole
 returns-clause-whole g c = whole_as c.head_of.new.store.geometry c.args.store.now.geometry
     c.push_cell.new.batch.pages c.in_ok-head.ensures.keeps.geometry c.push_cell.ensures.whole
+
+pub push_cell-requires-clause-whole : goal.push_cell-requires-clause-whole
+push_cell-requires-clause-whole g c = whole_kept g.D.Disk.meaning c.args.store.now
+    c.head_of.new.store c.args.batch.now.pages
+    c.in_ok-head.ensures.keeps
+    c.requires.whole

@@ -1,3 +1,4 @@
+use Rattle.mg_space.specs.WholeLaws.{whole_kept, whole_as}
 use Rattle.std.proofs.Common.{◌∙◌, refl}
 use Rattle.mg_image.specs.Form.{Pages}
 use Rattle.mg_pool.specs.declared.fault.PoolFault.TheVariants as pool_faults
@@ -8,7 +9,6 @@ use Rattle.mg_chain.specs.WritingRefusals.{RefusesPushCell, RefusesTurn, push_me
 use Rattle.mg_chain.proofs.HeadLemmas.{seen_before}
 use Rattle.mg_chain.proofs.PushLemmas.{pushes_cell, whole_ordered}
 use Rattle.mg_chain.proofs.Steps.{handed_on}
-use Rattle.mg_chain.proofs.TurnLemmas.{whole_as}
 use Rattle.mg_chain.proofs.pushing.push_cell.Goals as goal
 
 pub returns-in_err-put-clause-pushes : goal.returns-in_err-put-clause-pushes
@@ -100,3 +100,9 @@ returns-clause-fault g c = (
   c.in_ok-turn.ensures.fault.1,
   c.in_ok-turn.ensures.fault.2 ∙ c.in_ok-put.ensures.fault.2,
 )
+
+pub turn-requires-clause-whole : goal.turn-requires-clause-whole
+turn-requires-clause-whole g c = whole_kept g.D.Disk.meaning c.args.store.now
+    c.put_version.new.store c.put_version.new.batch.pages
+    c.in_ok-put.ensures.keeps
+    c.in_ok-put.ensures.whole

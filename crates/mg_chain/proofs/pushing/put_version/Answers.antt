@@ -1,3 +1,4 @@
+use Rattle.mg_space.specs.WholeLaws.{whole_kept}
 use Rattle.std.specs.declared.alloc.Global.{Global}
 use Rattle.std.specs.declared.vec.Vec.{Vec}
 use Rattle.std.proofs.Common.{◌∙◌, ℕ}
@@ -58,3 +59,9 @@ returns-clause-fault g c = (
   c.in_ok-pointers.ensures.fault.1,
   c.in_ok-pointers.ensures.fault.2 ∙ c.in_ok-at.ensures.fault.2,
 )
+
+pub pointers_to-requires-clause-whole : goal.pointers_to-requires-clause-whole
+pointers_to-requires-clause-whole g c = whole_kept g.D.Disk.meaning c.args.store.now
+    c.add.new.store c.add.new.batch.pages
+    c.in_ok-at.ensures.keeps
+    c.in_ok-at.ensures.whole

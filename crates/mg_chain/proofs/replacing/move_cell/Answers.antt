@@ -1,3 +1,4 @@
+use Rattle.mg_space.specs.WholeLaws.{whole_kept, whole_as}
 use Rattle.std.proofs.Common.{◌∙◌, refl}
 use Rattle.mg_pool.specs.declared.fault.PoolFault.TheVariants as pool_faults
 use Rattle.mg_space.specs.HandedLaws.{fault_memory, fault_up}
@@ -7,7 +8,6 @@ use Rattle.mg_chain.specs.WritingRefusals.{RefusesMove, move_memory, move_puts, 
 use Rattle.mg_chain.proofs.MakeLemmas.{moves_cell}
 use Rattle.mg_chain.proofs.PushLemmas.{whole_ordered}
 use Rattle.mg_chain.proofs.Steps.{handed_on}
-use Rattle.mg_chain.proofs.TurnLemmas.{whole_as}
 use Rattle.mg_chain.proofs.replacing.move_cell.Goals as goal
 
 pub returns-in_err-moved-clause-moves : goal.returns-in_err-moved-clause-moves
@@ -102,3 +102,9 @@ returns-clause-fault g c = (
   c.in_ok-swing.ensures.fault.1,
   c.in_ok-swing.ensures.fault.2 ∙ c.in_ok-moved.ensures.fault.2,
 )
+
+pub swing-requires-clause-whole : goal.swing-requires-clause-whole
+swing-requires-clause-whole g c = whole_kept g.D.Disk.meaning c.args.store.now
+    c.put_moved.new.store c.put_moved.new.batch.pages
+    c.in_ok-moved.ensures.keeps
+    c.in_ok-moved.ensures.whole

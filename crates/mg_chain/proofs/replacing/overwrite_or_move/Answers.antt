@@ -1,3 +1,4 @@
+use Rattle.mg_space.specs.WholeLaws.{whole_kept, whole_as}
 use Rattle.std.proofs.Common.{inl, refl, subst, sym}
 use Rattle.mg_heap.specs.ChangingLaws.{whole_where}
 use Rattle.mg_pool.specs.Batch.{Changed}
@@ -6,7 +7,7 @@ use Rattle.mg_space.specs.ViewLaws.{tells_on, keeps_on, fault_on}
 use Rattle.mg_chain.specs.WritingRefusals.{RefusesOverwrite, over_reads}
 use Rattle.mg_chain.proofs.MakeLemmas.{moved_then}
 use Rattle.mg_chain.proofs.Steps.{handed_on}
-use Rattle.mg_chain.proofs.TurnLemmas.{puts_where, whole_as}
+use Rattle.mg_chain.proofs.TurnLemmas.{puts_where}
 use Rattle.mg_chain.proofs.replacing.overwrite_or_move.Goals as goal
 
 pub returns-in_err-placed-clause-writes : goal.returns-in_err-placed-clause-writes
@@ -55,3 +56,11 @@ returns-clause-fault g c = fault_on g.D.Disk.meaning c.args.store.now c.place.ne
 pub returns-clause-whole : goal.returns-clause-whole
 returns-clause-whole g c = whole_as c.place.new.store.geometry c.args.store.now.geometry
     c.move_cell.new.batch.pages c.in_ok-placed.ensures.keeps.geometry c.move_cell.ensures.whole
+
+pub move_cell-requires-clause-whole : goal.move_cell-requires-clause-whole
+move_cell-requires-clause-whole g c = whole_kept g.D.Disk.meaning c.args.store.now
+    c.place.new.store c.place.new.batch.pages
+    c.in_ok-placed.ensures.keeps
+    (whole_where c.args.store.now.geometry c.args.batch.now c.place.new.batch
+    c.args.head.newest.rec.page.0 c.in_ok-placed.placed c.requires.whole
+    c.in_ok-placed.ensures.below c.in_ok-placed.ensures.changes)

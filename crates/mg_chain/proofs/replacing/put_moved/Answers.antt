@@ -1,3 +1,4 @@
+use Rattle.mg_space.specs.WholeLaws.{whole_kept}
 use Rattle.std.specs.declared.alloc.Global.{Global}
 use Rattle.std.specs.declared.vec.Vec.{Vec}
 use Rattle.std.proofs.Common.{◌∙◌, ℕ}
@@ -63,3 +64,9 @@ returns-clause-fault g c = (
   c.in_ok-slot_pointers.ensures.fault.1,
   c.in_ok-slot_pointers.ensures.fault.2 ∙ c.in_ok-put.ensures.fault.2,
 )
+
+pub slot_pointers-requires-clause-whole : goal.slot_pointers-requires-clause-whole
+slot_pointers-requires-clause-whole g c = whole_kept g.D.Disk.meaning c.args.store.now
+    c.put_version.new.store c.put_version.new.batch.pages
+    c.in_ok-put.ensures.keeps
+    c.in_ok-put.ensures.whole

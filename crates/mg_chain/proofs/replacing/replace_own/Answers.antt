@@ -1,3 +1,4 @@
+use Rattle.mg_space.specs.WholeLaws.{whole_kept, whole_as}
 use Rattle.std.proofs.Common.{ap, refl, sym, ◌∙◌}
 use Rattle.std.proofs.lemmas.Bool.{false≢true}
 use Rattle.mg_base.specs.declared.damage.Damaged.{Damaged}
@@ -5,7 +6,6 @@ use Rattle.mg_pool.specs.declared.fault.PoolFault.TheVariants as pool_faults
 use Rattle.mg_space.specs.ViewLaws.{keeps_on, tells_on, fault_on}
 use Rattle.mg_space.specs.declared.fault.SpaceFault.TheVariants as faults
 use Rattle.mg_space.specs.View.{pool_answer}
-use Rattle.mg_chain.proofs.TurnLemmas.{whole_as}
 use Rattle.mg_chain.specs.WritingRefusals.{RefusesReplace, replace_memory, replace_newest, replace_other}
 use Rattle.mg_chain.proofs.MakeLemmas.{replaced_then}
 use Rattle.mg_chain.proofs.Steps.{handed_on}
@@ -55,3 +55,9 @@ returns-clause-fault g c = fault_on g.D.Disk.meaning c.args.store.now c.newest_o
 pub returns-clause-whole : goal.returns-clause-whole
 returns-clause-whole g c = whole_as c.newest_of.new.store.geometry c.args.store.now.geometry
     c.overwrite_or_move.new.batch.pages c.in_ok-top.ensures.keeps.geometry c.overwrite_or_move.ensures.whole
+
+pub overwrite_or_move-requires-clause-whole : goal.overwrite_or_move-requires-clause-whole
+overwrite_or_move-requires-clause-whole g c = whole_kept g.D.Disk.meaning c.args.store.now
+    c.newest_of.new.store c.args.batch.now.pages
+    c.in_ok-top.ensures.keeps
+    c.requires.whole

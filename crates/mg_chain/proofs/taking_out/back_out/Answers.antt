@@ -1,6 +1,6 @@
+use Rattle.mg_space.specs.WholeLaws.{whole_kept, whole_as}
 use Rattle.mg_space.specs.ViewLaws.{tells_on, keeps_on, fault_on}
 use Rattle.mg_space.specs.View.{pool_answer}
-use Rattle.mg_chain.proofs.TurnLemmas.{whole_as}
 use Rattle.mg_chain.specs.WritingRefusals.{RefusesBackOut, back_newest}
 use Rattle.mg_chain.proofs.MakeLemmas.{taken_then}
 use Rattle.mg_chain.proofs.Steps.{handed_on}
@@ -35,3 +35,9 @@ returns-clause-fault g c = fault_on g.D.Disk.meaning c.args.store.now c.newest_o
 pub returns-clause-whole : goal.returns-clause-whole
 returns-clause-whole g c = whole_as c.newest_of.new.store.geometry c.args.store.now.geometry
     c.take_cell_out.new.batch.pages c.in_ok-top.ensures.keeps.geometry c.take_cell_out.ensures.whole
+
+pub take_cell_out-requires-clause-whole : goal.take_cell_out-requires-clause-whole
+take_cell_out-requires-clause-whole g c = whole_kept g.D.Disk.meaning c.args.store.now
+    c.newest_of.new.store c.args.batch.now.pages
+    c.in_ok-top.ensures.keeps
+    c.requires.whole

@@ -1,3 +1,4 @@
+use Rattle.mg_space.specs.WholeLaws.{whole_kept, whole_as}
 use Rattle.std.proofs.Common.{◌∙◌, refl}
 use Rattle.mg_pool.specs.declared.fault.PoolFault.TheVariants as pool_faults
 use Rattle.mg_space.specs.HandedLaws.{fault_memory, fault_up}
@@ -7,7 +8,6 @@ use Rattle.mg_chain.specs.WritingRefusals.{RefusesTakeCellOut, out_memory, out_r
 use Rattle.mg_chain.proofs.MakeLemmas.{takes_cell_out}
 use Rattle.mg_chain.proofs.PushLemmas.{whole_ordered}
 use Rattle.mg_chain.proofs.Steps.{handed_on}
-use Rattle.mg_chain.proofs.TurnLemmas.{whole_as}
 use Rattle.mg_chain.proofs.taking_out.take_cell_out.Goals as goal
 
 pub returns-in_err-pointers-clause-takes : goal.returns-in_err-pointers-clause-takes
@@ -98,3 +98,9 @@ returns-clause-fault g c = (
   c.in_ok-swing.ensures.fault.1,
   c.in_ok-swing.ensures.fault.2 ∙ c.in_ok-pointers.ensures.fault.2,
 )
+
+pub swing-requires-clause-whole : goal.swing-requires-clause-whole
+swing-requires-clause-whole g c = whole_kept g.D.Disk.meaning c.args.store.now
+    c.slot_pointers.new.store c.args.batch.now.pages
+    c.in_ok-pointers.ensures.keeps
+    c.requires.whole

@@ -1,9 +1,10 @@
+use Rattle.mg_space.specs.WholeLaws.{whole_kept, whole_as}
 use Rattle.std.proofs.Common.{sym}
 use Rattle.mg_space.specs.ViewLaws.{tells_on, keeps_on, fault_on}
 use Rattle.mg_space.specs.View.{pool_answer}
 use Rattle.mg_chain.specs.WritingRefusals.{RefusesSwing, swing_turns}
 use Rattle.mg_chain.proofs.Steps.{handed_on}
-use Rattle.mg_chain.proofs.TurnLemmas.{swings_then, whole_as, whole_freed}
+use Rattle.mg_chain.proofs.TurnLemmas.{swings_then, whole_freed}
 use Rattle.mg_chain.proofs.turning.swing.Goals as goal
 
 pub returns-in_err-turn_back-clause-gives : goal.returns-in_err-turn_back-clause-gives
@@ -40,3 +41,9 @@ pub returns-clause-fault : goal.returns-clause-fault
 returns-clause-fault g c = fault_on g.D.Disk.meaning c.args.store.now c.turn_back.new.store
     c.free.new.store (pool_answer c.free.result) c.in_ok-turn_back.ensures.keeps
     c.in_ok-turn_back.ensures.fault.2 c.free.ensures.fault
+
+pub free-requires-clause-whole : goal.free-requires-clause-whole
+free-requires-clause-whole g c = whole_kept g.D.Disk.meaning c.args.store.now
+    c.turn_back.new.store c.turn_back.new.batch.pages
+    c.in_ok-turn_back.ensures.keeps
+    c.in_ok-turn_back.ensures.whole
