@@ -1,8 +1,6 @@
 -- What comes of one row after another.
 use Rattle.std.proofs.Common.{◌≡◌, ℕ, List, [], ◌∷◌, None, Err, arith, inl, inr, length, refl, subst, sym, ◌∙◌, Result, Ok}
 use Rattle.std.specs.Prelude.{MatchResult}
-use Rattle.mg_base.specs.declared.geometry.Geometry.{Geometry}
-use Rattle.mg_pool.specs.declared.batch.BatchPage.{BatchPage}
 use Rattle.mg_base.specs.Disk.{Meaning}
 use Rattle.mg_base.specs.Image.{Image}
 use Rattle.mg_base.specs.declared.numbers.RecId.{RecId}
@@ -12,7 +10,7 @@ use Rattle.mg_model.specs.declared.table.Table.{Table}
 use Rattle.mg_pool.specs.Batch.{Changed}
 use Rattle.mg_pool.specs.declared.pool.Pool.{Pool}
 use Rattle.mg_pool.specs.Fault.{TellsFault}
-use Rattle.mg_space.specs.View.{AreWhole, KeepsStore, ReadsAlone, pool_answer}
+use Rattle.mg_space.specs.View.{KeepsStore, ReadsAlone, pool_answer}
 use Rattle.mg_space.specs.declared.fault.SpaceFault.{SpaceFault}
 use Rattle.mg_version.specs.declared.cell.Version.{Version}
 use Rattle.mg_value.specs.declared.shape.Shape.{Shape}
@@ -85,9 +83,6 @@ refuses_here m a b new image catalog t all rest later row old now fault is furth
 pub nothing_left : (rows : List Row) → length rows ≡ 0 → rows ≡ []
 nothing_left [] none = refl
 nothing_left (row ∷ rows) none = absurd (omega (arith, none))
-
-pub whole_as : (b a : Geometry) (pages : List BatchPage) → b ≡ a → AreWhole b pages → AreWhole a pages
-whole_as b a pages same whole = subst (λ (g : Geometry). AreWhole g pages) same whole
 
 -- ---- the rows of a table
 

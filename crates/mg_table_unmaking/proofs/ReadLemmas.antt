@@ -9,9 +9,8 @@ use Rattle.mg_chain.specs.Writing.{FreesAt, PutsAt, SlotIsReached, TakesOut, Has
 use Rattle.mg_heap.specs.Changing.{ChangesAtMost, ChangesOne, FreesCellAt, PutsCellAt}
 use Rattle.mg_image.specs.Form.{Pages}
 use Rattle.mg_pool.specs.Batch.{Changed}
-use Rattle.mg_pool.specs.declared.batch.BatchPage.{BatchPage}
 use Rattle.mg_pool.specs.declared.pool.Pool.{Pool}
-use Rattle.mg_space.specs.View.{AreWhole, KeepsStore, Tells, viewed}
+use Rattle.mg_space.specs.View.{KeepsStore, Tells, viewed}
 use Rattle.mg_space.specs.ViewLaws.{tells_on, viewed_on}
 use Rattle.mg_space.specs.declared.fault.SpaceFault.{SpaceFault}
 use Rattle.mg_version.specs.declared.cell.Link.{Link}
@@ -22,9 +21,6 @@ pub handed_on : {T : Type 0} (result : Result T SpaceFault) (fault : SpaceFault)
     → IsErrAnd result (λ given. given ≡ fault) → Q fault → MatchResult result P Q
 handed_on (Ok x) fault P Q err is holds = absurd cc
 handed_on (Err e) fault P Q err is holds = subst Q (sym is) holds
-
-pub whole_as : (b a : Geometry) (pages : List BatchPage) → b ≡ a → AreWhole b pages → AreWhole a pages
-whole_as b a pages same whole = subst (λ (g : Geometry). AreWhole g pages) same whole
 
 -- what is seen once pages were read was seen before
 pub as_before : {D L : Type 0} (m : Meaning D) (a b : Pool D L) (image : Image) (batch : Changed)

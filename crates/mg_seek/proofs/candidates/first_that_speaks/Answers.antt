@@ -1,10 +1,11 @@
-use Rattle.std.proofs.Common.{arith, ◌∙◌, List, Some, None, inl, inr, refl, subst, sym, ap, Bool}
+use Rattle.mg_space.specs.WholeLaws.{whole_kept}
+use Rattle.std.proofs.Common.{arith, ◌∙◌, List, Some, None, inl, inr, refl, subst, sym, Bool}
 use Rattle.std.specs.Prelude.{◌↔◌, IsTrue}
 use Rattle.std.proofs.lemmas.Bool.{false≢true}
 use Rattle.mg_base.specs.declared.numbers.RecId.{RecId}
 use Rattle.mg_image.specs.Form.{Pages}
 use Rattle.mg_space.specs.HandedLaws.{fault_up}
-use Rattle.mg_space.specs.View.{AreWhole, viewed}
+use Rattle.mg_space.specs.View.{viewed}
 use Rattle.mg_space.specs.ViewLaws.{keeps_on}
 use Rattle.mg_heap.specs.HandedLaws.{reads_same}
 use Rattle.mg_seek.specs.Candidates.{FoundAmong, RefusesCandidate, RefusesCandidates, SpeaksOf}
@@ -15,7 +16,6 @@ use Rattle.mg_seek.specs.RecordLaws.{as_kept}
 use Rattle.mg_seek.proofs.Steps.{handed_on}
 use Rattle.mg_seek.proofs.CandidateLemmas.{candidate_passed, candidate_refuses}
 use Rattle.mg_seek.proofs.TableLemmas.{none_left}
-use Rattle.mg_base.specs.declared.geometry.Geometry.{Geometry}
 use Rattle.mg_space.specs.Taking.{IsGeometry}
 use Rattle.mg_seek.proofs.candidates.first_that_speaks.Goals as goal
 
@@ -77,7 +77,7 @@ speaks_of-requires-clause-geometry g c = subst IsGeometry (sym c.loop-rec.invari
 
 pub speaks_of-requires-clause-whole : goal.speaks_of-requires-clause-whole
 speaks_of-requires-clause-whole g c =
-    subst (λ (x : Geometry). AreWhole x c.args.batch.now.pages) (sym c.loop-rec.invariant.keeps.geometry) c.requires.whole
+    whole_kept g.D.Disk.meaning c.args.store.now c.loop-rec.store c.args.batch.now.pages c.loop-rec.invariant.keeps c.requires.whole
 
 pub speaks_of-requires-clause-columns : goal.speaks_of-requires-clause-columns
 speaks_of-requires-clause-columns g c = c.requires.columns

@@ -1,3 +1,4 @@
+use Rattle.mg_space.specs.WholeLaws.{whole_kept}
 use Rattle.std.proofs.Common.{Bool}
 use Rattle.std.specs.Prelude.{◌↔◌, IsTrue, MatchResult}
 use Rattle.mg_image.specs.Form.{Pages}
@@ -68,3 +69,7 @@ returns-clause-gives g c = λ image tells.
     (λ does. IsTrue does ↔ Speaks (g.S.States.state_of c.args.states.now) c.args.live.now view c.args.table.now c.args.key.now c.args.rec)
     (RefusesRecord g.D.Disk.meaning c.speaks.new.store c.args.batch.now.pages view (wants (g.S.States.state_of c.args.states.now) c.args.live.now Living) c.args.table.now c.args.rec))
     c.in_ok-its.ensures.keeps tells (c.speaks.ensures.gives image))
+
+pub speaks-requires-clause-whole : goal.speaks-requires-clause-whole
+speaks-requires-clause-whole g c = whole_kept g.D.Disk.meaning c.args.store.now
+    c.is_record_of.new.store c.args.batch.now.pages c.in_ok-its.ensures.keeps c.requires.whole

@@ -1,7 +1,8 @@
-use Rattle.std.proofs.Common.{◌≡◌, ◌∙◌, ◌++◌, ℕ, arith, refl, get_or, ap, subst, sym}
+use Rattle.mg_space.specs.WholeLaws.{whole_kept}
+use Rattle.std.proofs.Common.{◌≡◌, ◌∙◌, ◌++◌, ℕ, arith, refl, get_or, subst, sym}
 use Rattle.mg_image.specs.Form.{Pages}
 use Rattle.mg_space.specs.HandedLaws.{fault_up}
-use Rattle.mg_space.specs.View.{AreWhole, viewed}
+use Rattle.mg_space.specs.View.{viewed}
 use Rattle.mg_space.specs.ViewLaws.{keeps_on}
 use Rattle.mg_heap.specs.HandedLaws.{reads_same}
 use Rattle.mg_heap.specs.Walk.{RefusesTableData, RefusesWalkOf}
@@ -9,7 +10,6 @@ use Rattle.mg_seek.specs.TableRecords.{records_in, records_on}
 use Rattle.mg_seek.specs.RecordLaws.{as_kept}
 use Rattle.mg_seek.proofs.Steps.{handed_on}
 use Rattle.mg_seek.proofs.TableLemmas.{page_broken, page_listed, pages_listed}
-use Rattle.mg_base.specs.declared.geometry.Geometry.{Geometry}
 use Rattle.mg_space.specs.Taking.{IsGeometry}
 use Rattle.mg_seek.proofs.listing.page_records.Goals as goal
 
@@ -59,7 +59,7 @@ add_page-requires-clause-geometry g c = subst IsGeometry (sym c.loop-place.invar
 
 pub add_page-requires-clause-whole : goal.add_page-requires-clause-whole
 add_page-requires-clause-whole g c =
-    subst (λ (x : Geometry). AreWhole x c.args.batch.now.pages) (sym c.loop-place.invariant.keeps.geometry) c.requires.whole
+    whole_kept g.D.Disk.meaning c.args.store.now c.loop-place.store c.args.batch.now.pages c.loop-place.invariant.keeps c.requires.whole
 
 pub returns-in_err-add_page-clause-keeps : goal.returns-in_err-add_page-clause-keeps
 returns-in_err-add_page-clause-keeps g c = keeps_on g.D.Disk.meaning g.met.D.Disk.counts_now c.args.store.now c.loop-place.store

@@ -1,3 +1,4 @@
+use Rattle.mg_space.specs.WholeLaws.{whole_kept}
 use Rattle.std.proofs.Common.{◌≡◌, ℕ}
 use Rattle.std.specs.Prelude.{MatchResult}
 use Rattle.mg_heap.specs.HandedLaws.{reads_same}
@@ -55,3 +56,7 @@ returns-clause-fault g c = fault_on g.D.Disk.meaning c.args.store.now c.table_pa
 
 pub returns-clause-own : goal.returns-clause-own
 returns-clause-own g c = c.page_records.ensures.own
+
+pub page_records-requires-clause-whole : goal.page_records-requires-clause-whole
+page_records-requires-clause-whole g c = whole_kept g.D.Disk.meaning c.args.store.now
+    c.table_pages.new.store c.args.batch.now.pages c.in_ok-table.ensures.keeps c.requires.whole

@@ -1,3 +1,4 @@
+use Rattle.mg_space.specs.WholeLaws.{whole_kept}
 use Rattle.std.proofs.Common.{ℕ}
 use Rattle.std.specs.Prelude.{MatchResult}
 use Rattle.mg_image.specs.Form.{Pages}
@@ -65,3 +66,7 @@ returns-clause-fault g c = fault_on g.D.Disk.meaning c.args.store.now c.table_re
 
 pub returns-clause-own : goal.returns-clause-own
 returns-clause-own g c = c.speaker_among.ensures.own
+
+pub speaker_among-requires-clause-whole : goal.speaker_among-requires-clause-whole
+speaker_among-requires-clause-whole g c = whole_kept g.D.Disk.meaning c.args.store.now
+    c.table_records.new.store c.args.batch.now.pages c.in_ok-records.ensures.keeps c.requires.whole

@@ -1,10 +1,11 @@
-use Rattle.std.proofs.Common.{arith, ◌≡◌, ◌∙◌, ℕ, List, Some, None, Option, inl, inr, refl, subst, sym, ap, Bool}
+use Rattle.mg_space.specs.WholeLaws.{whole_kept}
+use Rattle.std.proofs.Common.{arith, ◌≡◌, ◌∙◌, ℕ, List, Some, None, Option, inl, inr, refl, subst, sym, Bool}
 use Rattle.std.specs.Prelude.{◌↔◌, IsTrue}
 use Rattle.std.proofs.lemmas.Bool.{false≢true}
 use Rattle.mg_base.specs.declared.numbers.RecId.{RecId}
 use Rattle.mg_image.specs.Form.{Pages}
 use Rattle.mg_space.specs.HandedLaws.{fault_up}
-use Rattle.mg_space.specs.View.{AreWhole, viewed}
+use Rattle.mg_space.specs.View.{viewed}
 use Rattle.mg_space.specs.ViewLaws.{keeps_on}
 use Rattle.mg_heap.specs.HandedLaws.{reads_same}
 use Rattle.mg_seek.specs.Refusals.{RefusesRecord}
@@ -15,7 +16,6 @@ use Rattle.mg_seek.specs.declared.whose.Wanted.TheVariants.{Living}
 use Rattle.mg_seek.specs.RecordLaws.{as_kept}
 use Rattle.mg_seek.proofs.Steps.{handed_on}
 use Rattle.mg_seek.proofs.TableLemmas.{none_left, passed_over, record_refuses}
-use Rattle.mg_base.specs.declared.geometry.Geometry.{Geometry}
 use Rattle.mg_space.specs.Taking.{IsGeometry}
 use Rattle.mg_seek.proofs.speaking.speaker_among.Goals as goal
 
@@ -79,7 +79,7 @@ speaks-requires-clause-geometry g c = subst IsGeometry (sym c.loop-rec.invariant
 
 pub speaks-requires-clause-whole : goal.speaks-requires-clause-whole
 speaks-requires-clause-whole g c =
-    subst (λ (x : Geometry). AreWhole x c.args.batch.now.pages) (sym c.loop-rec.invariant.keeps.geometry) c.requires.whole
+    whole_kept g.D.Disk.meaning c.args.store.now c.loop-rec.store c.args.batch.now.pages c.loop-rec.invariant.keeps c.requires.whole
 
 pub speaks-requires-clause-columns : goal.speaks-requires-clause-columns
 speaks-requires-clause-columns g c = c.requires.columns

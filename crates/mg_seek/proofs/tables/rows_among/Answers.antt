@@ -1,8 +1,9 @@
-use Rattle.std.proofs.Common.{arith, ◌≡◌, ◌∙◌, ℕ, List, [], ◌++◌, inl, inr, refl, subst, sym, ap}
+use Rattle.mg_space.specs.WholeLaws.{whole_kept}
+use Rattle.std.proofs.Common.{arith, ◌≡◌, ◌∙◌, ℕ, List, [], ◌++◌, inl, inr, refl, subst, sym}
 use Rattle.mg_base.specs.declared.numbers.RecId.{RecId}
 use Rattle.mg_image.specs.Form.{Pages, Row}
 use Rattle.mg_space.specs.HandedLaws.{fault_up}
-use Rattle.mg_space.specs.View.{AreWhole, viewed}
+use Rattle.mg_space.specs.View.{viewed}
 use Rattle.mg_space.specs.ViewLaws.{keeps_itself, keeps_on}
 use Rattle.mg_heap.specs.HandedLaws.{reads_same}
 use Rattle.mg_seek.specs.Refusals.{RefusesRecord}
@@ -15,7 +16,6 @@ use Rattle.mg_seek.specs.RecordLaws.{as_kept}
 use Rattle.mg_seek.proofs.SeenLemmas.{seen_all, seen_on}
 use Rattle.mg_seek.proofs.Steps.{handed_on}
 use Rattle.mg_seek.proofs.TableLemmas.{none_left, record_refuses}
-use Rattle.mg_base.specs.declared.geometry.Geometry.{Geometry}
 use Rattle.mg_space.specs.Taking.{IsGeometry}
 use Rattle.mg_seek.proofs.tables.rows_among.Goals as goal
 
@@ -75,7 +75,7 @@ add_row-requires-clause-geometry g c = subst IsGeometry (sym c.loop-rec.invarian
 
 pub add_row-requires-clause-whole : goal.add_row-requires-clause-whole
 add_row-requires-clause-whole g c =
-    subst (λ (x : Geometry). AreWhole x c.args.batch.now.pages) (sym c.loop-rec.invariant.keeps.geometry) c.requires.whole
+    whole_kept g.D.Disk.meaning c.args.store.now c.loop-rec.store c.args.batch.now.pages c.loop-rec.invariant.keeps c.requires.whole
 
 pub add_row-requires-clause-columns : goal.add_row-requires-clause-columns
 add_row-requires-clause-columns g c = c.requires.columns

@@ -1,3 +1,4 @@
+use Rattle.mg_space.specs.WholeLaws.{whole_kept}
 use Rattle.std.proofs.Common.{ℕ}
 use Rattle.std.specs.Prelude.{MatchResult}
 use Rattle.mg_image.specs.Form.{Pages}
@@ -66,3 +67,7 @@ returns-clause-fault g c = fault_on g.D.Disk.meaning c.args.store.now c.table_re
 
 pub returns-clause-own : goal.returns-clause-own
 returns-clause-own g c = c.rows_among.ensures.own
+
+pub rows_among-requires-clause-whole : goal.rows_among-requires-clause-whole
+rows_among-requires-clause-whole g c = whole_kept g.D.Disk.meaning c.args.store.now
+    c.table_records.new.store c.args.batch.now.pages c.in_ok-records.ensures.keeps c.requires.whole

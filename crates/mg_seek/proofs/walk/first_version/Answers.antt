@@ -1,8 +1,8 @@
-use Rattle.std.proofs.Common.{Ok, Err, sym, ◌∙◌, ap, subst, Option}
-use Rattle.mg_base.specs.declared.geometry.Geometry.{Geometry}
+use Rattle.mg_space.specs.WholeLaws.{whole_kept}
+use Rattle.std.proofs.Common.{Ok, Err, sym, ◌∙◌, subst, Option}
 use Rattle.mg_space.specs.HandedLaws.{fault_same, fault_up, no_answer}
 use Rattle.mg_space.specs.Taking.{IsGeometry}
-use Rattle.mg_space.specs.View.{AreWhole, viewed}
+use Rattle.mg_space.specs.View.{viewed}
 use Rattle.mg_space.specs.ViewLaws.{keeps_on}
 use Rattle.mg_version.specs.declared.cell.Version.{Version}
 use Rattle.mg_heap.specs.HandedLaws.{reads_same}
@@ -62,7 +62,7 @@ version_at-requires-clause-geometry g c = subst IsGeometry (sym c.loop-step.inva
 
 pub version_at-requires-clause-whole : goal.version_at-requires-clause-whole
 version_at-requires-clause-whole g c =
-    subst (λ (x : Geometry). AreWhole x c.args.batch.now.pages) (sym c.loop-step.invariant.keeps.geometry) c.requires.whole
+    whole_kept g.D.Disk.meaning c.args.store.now c.loop-step.store c.args.batch.now.pages c.loop-step.invariant.keeps c.requires.whole
 
 pub returns-in_err-version-clause-keeps : goal.returns-in_err-version-clause-keeps
 returns-in_err-version-clause-keeps g c = keeps_on g.D.Disk.meaning g.met.D.Disk.counts_now c.args.store.now c.loop-step.store

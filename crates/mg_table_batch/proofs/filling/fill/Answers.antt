@@ -1,3 +1,4 @@
+use Rattle.mg_space.specs.WholeLaws.{whole_kept}
 use Rattle.std.proofs.Common.{refl}
 use Rattle.mg_pool.specs.declared.fault.PoolFault.TheVariants as pool_faults
 use Rattle.mg_space.specs.ViewLaws.{keeps_on, tells_on}
@@ -39,3 +40,8 @@ returns-clause-fills g c = λ image tells. filled_by g.D.Disk.meaning c.args.sto
 pub returns-clause-whole : goal.returns-clause-whole
 returns-clause-whole g c = subst (λ (x : Geometry). OnOk c.put_table.result (AreWhole x c.put_table.new.batch.pages))
     c.in_ok-page.ensures.keeps.geometry c.put_table.ensures.whole
+
+pub put_table-requires-clause-whole : goal.put_table-requires-clause-whole
+put_table-requires-clause-whole g c = whole_kept g.D.Disk.meaning c.args.store.now
+    c.take_first.new.store c.take_first.new.batch.pages
+    c.in_ok-page.ensures.keeps c.in_ok-page.ensures.whole

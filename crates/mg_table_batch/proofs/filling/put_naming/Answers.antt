@@ -1,3 +1,4 @@
+use Rattle.mg_space.specs.WholeLaws.{whole_kept}
 use Rattle.std.proofs.Common.{◌∙◌, refl}
 use Rattle.mg_image.specs.Form.{Pages}
 use Rattle.mg_pool.specs.declared.fault.PoolFault.TheVariants as pool_faults
@@ -52,3 +53,8 @@ returns-clause-puts g c = λ image tells. naming_by g.D.Disk.meaning c.args.stor
     c.in_ok-link.link c.geometry.result c.page_of_version.result.0
     (c.geometry.ensures ∙ c.in_ok-link.ensures.keeps.geometry ∙ c.in_ok-at.ensures.keeps.geometry) c.in_ok-at.ensures.keeps tells
     (c.in_ok-at.ensures.puts image tells) c.in_ok-link.ensures.gives c.page_of_version.ensures c.in_ok-order_to.ensures.adds
+
+pub newest_link-requires-clause-whole : goal.newest_link-requires-clause-whole
+newest_link-requires-clause-whole g c = whole_kept g.D.Disk.meaning c.args.store.now
+    c.put_row.new.store c.put_row.new.batch.pages
+    c.in_ok-at.ensures.keeps c.in_ok-at.ensures.whole

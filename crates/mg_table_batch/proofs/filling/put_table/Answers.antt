@@ -1,3 +1,4 @@
+use Rattle.mg_space.specs.WholeLaws.{whole_kept}
 use Rattle.mg_space.specs.ViewLaws.{keeps_on, tells_on}
 use Rattle.mg_table_batch.specs.Refusals.{RefusesRowsOf}
 use Rattle.mg_table_batch.proofs.FillLemmas.{own_refused, rows_then}
@@ -31,3 +32,8 @@ returns-clause-puts g c = λ image tells. rows_then g.D.Disk.meaning c.args.stor
 pub returns-clause-whole : goal.returns-clause-whole
 returns-clause-whole g c = subst (λ (x : Geometry). OnOk c.put_rows.result (AreWhole x c.put_rows.new.batch.pages))
     c.in_ok-put_naming.ensures.keeps.geometry c.put_rows.ensures.whole
+
+pub put_rows-requires-clause-whole : goal.put_rows-requires-clause-whole
+put_rows-requires-clause-whole g c = whole_kept g.D.Disk.meaning c.args.store.now
+    c.put_naming.new.store c.put_naming.new.batch.pages
+    c.in_ok-put_naming.ensures.keeps c.in_ok-put_naming.ensures.whole

@@ -1,3 +1,4 @@
+use Rattle.mg_space.specs.WholeLaws.{whole_kept, whole_as}
 use Rattle.std.proofs.Common.{subst}
 use Rattle.mg_base.specs.declared.geometry.Geometry.{Geometry}
 use Rattle.mg_space.specs.ViewLaws.{keeps_on, tells_on}
@@ -43,3 +44,12 @@ returns-clause-puts g c = λ image tells. row_made g.D.Disk.meaning c.args.store
     c.geometry-size.ensures c.in_ok-version.ensures) c.in_ok-at.ensures.keeps (c.in_ok-at.ensures.gives image tells)
     (c.in_ok-first.ensures.makes image (tells_on g.D.Disk.meaning c.args.store.now c.spot.new.store image
     c.in_ok-at.ensures.keeps tells))
+
+pub first-requires-clause-whole : goal.first-requires-clause-whole
+first-requires-clause-whole g c = whole_kept g.D.Disk.meaning c.args.store.now
+    c.spot.new.store c.spot.new.batch.pages
+    c.in_ok-at.ensures.keeps c.in_ok-at.ensures.whole
+
+pub returns-clause-whole : goal.returns-clause-whole
+returns-clause-whole g c = whole_as c.spot.new.store.geometry c.args.store.now.geometry c.first.new.batch.pages
+    c.in_ok-at.ensures.keeps.geometry c.in_ok-first.ensures.whole

@@ -1,9 +1,10 @@
+use Rattle.mg_space.specs.WholeLaws.{whole_kept, whole_as}
 use Rattle.std.proofs.Common.{arith, ◌∙◌, subst, sym, List}
 use Rattle.mg_image.specs.Form.{Row}
 use Rattle.mg_space.specs.ViewLaws.{keeps_on, tells_on}
 use Rattle.mg_table_batch.specs.Filling.{PutsRows, puts_none}
 use Rattle.mg_table_batch.specs.Refusals.{RefusesRows}
-use Rattle.mg_table_batch.proofs.FillLemmas.{nothing_left, puts_step, refuses_here, refuses_step, whole_as}
+use Rattle.mg_table_batch.proofs.FillLemmas.{nothing_left, puts_step, refuses_here, refuses_step}
 use Rattle.mg_table_batch.proofs.SeenLemmas.{handed_on}
 use Rattle.mg_table_batch.proofs.rows.put_rows.Goals as goal
 
@@ -46,3 +47,8 @@ returns-clause-puts g c = λ image tells. c.loop-row.invariant.puts image tells 
     (subst (λ (rows : List Row). PutsRows c.args.store.now image c.args.catalog.now c.args.t.0 rows c.loop-row.batch
     c.loop-row.batch) (sym (nothing_left c.loop-row.rest.now (omega (arith, c.in_default.ensures.cases))))
     (puts_none c.loop-row.batch))
+
+pub put_row-requires-clause-whole : goal.put_row-requires-clause-whole
+put_row-requires-clause-whole g c = whole_kept g.D.Disk.meaning c.args.store.now
+    c.loop-row.store c.loop-row.batch.pages
+    c.loop-row.invariant.keeps c.loop-row.invariant.whole

@@ -1,3 +1,4 @@
+use Rattle.mg_space.specs.WholeLaws.{whole_kept}
 use Rattle.std.proofs.Common.{ℕ, Option, false, refl, subst, true, sym, ◌∙◌, ◌≡◌}
 use Rattle.mg_base.specs.declared.numbers.RecId.{RecId}
 use Rattle.mg_chain.specs.Refusals.{RefusesChain}
@@ -59,3 +60,8 @@ returns-clause-gives g c = λ image tells. alone_other c.in-Some.rec c.in_ok-new
     (λ (view : Pages). IsFirst view (wants (g.S.States.state_of c.args.states.now) c.args.live.now Any)
     c.in-Some.rec c.in_ok-newest.newest) c.in_ok-found.ensures.keeps tells (c.in_ok-newest.ensures.gives image))
     (λ alone. let h : true ≡ false = sym (c.is_alone.ensures.1 alone) ∙ c.if-is_alone.false in absurd cc) refl
+
+pub first_version-requires-clause-whole : goal.first_version-requires-clause-whole
+first_version-requires-clause-whole g c = whole_kept g.D.Disk.meaning c.args.store.now
+    c.speaker.new.store c.args.batch.now.pages
+    c.in_ok-found.ensures.keeps c.requires.whole

@@ -1,6 +1,7 @@
+use Rattle.mg_space.specs.WholeLaws.{whole_kept, whole_as}
 use Rattle.mg_space.specs.ViewLaws.{tells_on}
 use Rattle.mg_table_unmaking.specs.Rows.{RefusesRow, row_not_found}
-use Rattle.mg_table_unmaking.proofs.ReadLemmas.{handed_on, whole_as}
+use Rattle.mg_table_unmaking.proofs.ReadLemmas.{handed_on}
 use Rattle.mg_table_unmaking.proofs.RowLemmas.{row_then}
 use Rattle.mg_table_unmaking.proofs.rows.take_row.Goals as goal
 
@@ -21,3 +22,8 @@ returns-clause-takes g c = λ image tells. row_then g.D.Disk.meaning c.args.stor
 pub returns-clause-whole : goal.returns-clause-whole
 returns-clause-whole g c = whole_as c.alone_at.new.store.geometry c.args.store.now.geometry c.back_out.new.batch.pages
     c.in_ok-rec.ensures.keeps.geometry c.back_out.ensures.whole
+
+pub back_out-requires-clause-whole : goal.back_out-requires-clause-whole
+back_out-requires-clause-whole g c = whole_kept g.D.Disk.meaning c.args.store.now
+    c.alone_at.new.store c.args.batch.now.pages
+    c.in_ok-rec.ensures.keeps c.requires.whole
