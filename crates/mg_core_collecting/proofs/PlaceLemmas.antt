@@ -23,6 +23,7 @@ use Rattle.mg_space.specs.Taking.{IsGeometry}
 use Rattle.mg_space.specs.View.{KeepsStore, Tells}
 use Rattle.mg_space.specs.declared.fault.SpaceFault.{SpaceFault}
 use Rattle.mg_space.specs.declared.links.FireLinks.{FireLinks}
+use Rattle.mg_txlist.specs.TipLaws.{tips_by}
 use Rattle.mg_txlist.specs.TxList.{said}
 use Rattle.mg_txlist.specs.declared.list.TxList.{TxList}
 
@@ -50,6 +51,7 @@ core_over m old store is pool same = record {
   geometry = subst IsGeometry (sym same) is.geometry;
   list = is.list;
   size = is.size ∙ ap (λ (g : Geometry). g.size) (sym same);
+  tips = tips_by old.store.geometry store.geometry old.list same is.tips;
   next = is.next;
   drawn = is.drawn;
   active = is.active;
@@ -64,6 +66,7 @@ core_counted m mid new is same = subst (IsCore m) (sym same) (record {
   geometry = is.geometry;
   list = is.list;
   size = is.size;
+  tips = is.tips;
   next = is.next;
   drawn = is.drawn;
   active = is.active;

@@ -52,6 +52,7 @@ use Rattle.mg_space.specs.Taking.{IsGeometry}
 use Rattle.mg_space.specs.View.{KeepsStore, Tells}
 use Rattle.mg_space.specs.declared.fault.SpaceFault.{SpaceFault}
 use Rattle.mg_space.specs.declared.links.FireLinks.{FireLinks}
+use Rattle.mg_txlist.specs.TipLaws.{tips_by}
 use Rattle.mg_txlist.specs.TxList.{said}
 use Rattle.mg_works.specs.Works.{given_to}
 use Rattle.mg_engine_collecting.specs.CoreStays.{HasInNamed, steps_so}
@@ -118,6 +119,7 @@ module _ (one : RowsAreOne packed_coding) (one_way : StandsOneWay packed_form) (
       geometry = subst IsGeometry (sym keeps.geometry) core.geometry;
       list = core.list;
       size = core.size ∙ ap (λ (g : Geometry). g.size) (sym keeps.geometry);
+      tips = tips_by old.store.geometry ready.geometry old.list keeps.geometry core.tips;
       next = core.next;
       drawn = core.drawn;
       active = core.active;
