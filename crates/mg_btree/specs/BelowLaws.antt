@@ -32,7 +32,8 @@ pub taken_whole : (g : Geometry) (old new : Changed) (n : ℕ) → AreWhole g ol
 taken_whole g old new n whole puts = whole_on g old new (inventory_of g.size n) puts.bytes whole puts.len
     (taken_below g (inventory_of g.size n) puts.region) puts.puts
 
-put_below : (limit : ℕ) (old new : Changed) (n : ℕ) (bytes : List ℕ) → AreBelow limit old.pages
+-- with a page more that lies below the limit
+pub put_below : (limit : ℕ) (old new : Changed) (n : ℕ) (bytes : List ℕ) → AreBelow limit old.pages
     → n < limit → PutsPage old new n bytes → AreBelow limit new.pages
 put_below limit old new n bytes below low puts page content is = at (cases_eq page n)
   where
