@@ -77,34 +77,34 @@ version_at-requires-2-clause-whole g c = whole_kept g.D.Disk.meaning c.args.stor
     c.requires.whole
 
 pub lead_past-requires-clause-whole : goal.lead_past-requires-clause-whole
-lead_past-requires-clause-whole g c = 
+lead_past-requires-clause-whole g c =
     let kept = keeps_on g.D.Disk.meaning g.met.D.Disk.counts_now c.args.store.now c.version_at.new.store
     c.version_at-2.new.store c.in_ok-version.ensures.keeps c.in_ok-older.ensures.keeps in
     whole_kept g.D.Disk.meaning c.args.store.now c.version_at-2.new.store c.args.batch.now.pages kept c.requires.whole
 
 pub returns-in_err-lead_past-clause-keeps : goal.returns-in_err-lead_past-clause-keeps
-returns-in_err-lead_past-clause-keeps g c = 
+returns-in_err-lead_past-clause-keeps g c =
     let kept = keeps_on g.D.Disk.meaning g.met.D.Disk.counts_now c.args.store.now c.version_at.new.store
     c.version_at-2.new.store c.in_ok-version.ensures.keeps c.in_ok-older.ensures.keeps in
     keeps_on g.D.Disk.meaning g.met.D.Disk.counts_now c.args.store.now c.version_at-2.new.store
     c.lead_past.new.store kept c.in_err-lead_past.ensures.keeps
 
 pub returns-in_err-lead_past-clause-whole : goal.returns-in_err-lead_past-clause-whole
-returns-in_err-lead_past-clause-whole g c = 
+returns-in_err-lead_past-clause-whole g c =
     let kept = keeps_on g.D.Disk.meaning g.met.D.Disk.counts_now c.args.store.now c.version_at.new.store
     c.version_at-2.new.store c.in_ok-version.ensures.keeps c.in_ok-older.ensures.keeps in
     whole_as c.version_at-2.new.store.geometry c.args.store.now.geometry c.lead_past.new.batch.pages
     kept.geometry c.in_err-lead_past.ensures.whole
 
 pub returns-clause-keeps : goal.returns-clause-keeps
-returns-clause-keeps g c = 
+returns-clause-keeps g c =
     let kept = keeps_on g.D.Disk.meaning g.met.D.Disk.counts_now c.args.store.now c.version_at.new.store
     c.version_at-2.new.store c.in_ok-version.ensures.keeps c.in_ok-older.ensures.keeps in
     keeps_on g.D.Disk.meaning g.met.D.Disk.counts_now c.args.store.now c.version_at-2.new.store
     c.lead_past.new.store kept c.in_ok-lead_past.ensures.keeps
 
 pub returns-clause-whole : goal.returns-clause-whole
-returns-clause-whole g c = 
+returns-clause-whole g c =
     let kept = keeps_on g.D.Disk.meaning g.met.D.Disk.counts_now c.args.store.now c.version_at.new.store
     c.version_at-2.new.store c.in_ok-version.ensures.keeps c.in_ok-older.ensures.keeps in
     whole_as c.version_at-2.new.store.geometry c.args.store.now.geometry c.lead_past.new.batch.pages

@@ -37,7 +37,7 @@ free-requires-clause-whole g c = whole_kept g.D.Disk.meaning c.args.store.now
     c.in_ok-put_over.ensures.whole
 
 pub returns-in_err-free-clause-whole : goal.returns-in_err-free-clause-whole
-returns-in_err-free-clause-whole g c = 
+returns-in_err-free-clause-whole g c =
     subst (λ (b : Changed). AreWhole c.args.store.now.geometry b.pages)
     (sym c.in_err-free.ensures.same) c.in_ok-put_over.ensures.whole
 

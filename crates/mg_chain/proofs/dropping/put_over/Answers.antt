@@ -36,7 +36,7 @@ returns-clause-puts g c = λ image tells. record {
 }
 
 pub returns-in_err-placed-clause-whole : goal.returns-in_err-placed-clause-whole
-returns-in_err-placed-clause-whole g c = 
+returns-in_err-placed-clause-whole g c =
     subst (λ (b : Changed). AreWhole c.args.store.now.geometry b.pages)
     (sym c.in_err-placed.ensures.same) c.requires.whole
 
