@@ -2,10 +2,8 @@
 
 ghost use Rattle.std.specs.Prelude.{◌≡◌, ◌<◌, [], ◌∷◌, length, drop, IfOk, OnOk, OnErr};
 ghost use Rattle.mg_undo.specs.Undo.{repeats as repeats_of, settled, without_newest, given_as, newest};
-ghost use Rattle.mg_undo.specs.Whole.{goes_whole as is_whole};
 
 use crate::places::{Places, place_of};
-use crate::whole::change_goes_whole;
 use mg_base::Memory;
 use mg_value::{Key, Row};
 use std::alloc::Global;
@@ -107,18 +105,6 @@ impl Changes {
         ensures { result ≡ length self.now }
     {
         self.list.len()
-    }
-
-    /// Tells whether these keys of a table are of whole tables, by all changes that are kept.
-    pub(crate) fn goes_whole(&self, table: u32, gone: &[Key]) -> bool
-        ensures { result ≡ is_whole table gone.now self.now }
-    {
-        for i in 0..self.list.len() {
-            if !change_goes_whole(&self.list[i], table, gone) {
-                return false;
-            }
-        }
-        true
     }
 
     /// Keeps a change.

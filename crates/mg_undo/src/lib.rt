@@ -8,8 +8,7 @@
 //! change it tells which one of the same key was the last before, so that nothing is searched when
 //! changes are taken back. A key leaves the map with its first change, and then it is the last.
 //!
-//! `goes_whole` tests which rows of the catalog are taken back: a transaction that takes back a CREATE TABLE takes back
-//! all rows of that table, and the engine takes them out one by one, each in a batch of its own.
+//! `has_table_key` tells whether a table's row is among the rows of the catalog that are taken back.
 //!
 //! Invariant: a point stands no higher than the changes that are left, and no lower than an older
 //! point. The places are those of the changes.

@@ -1,7 +1,6 @@
 //! What a transaction has to take back.
 
 ghost use Rattle.std.specs.Prelude.{◌≡◌, ◌&&◌, [], false, is_some, IfOk, OnOk, OnErr};
-ghost use Rattle.mg_undo.specs.Whole.{goes_whole as is_whole};
 ghost use Rattle.mg_undo.specs.Undo.{after_keep, after_retract, after_point, after_back_to, has_point, take_back as taken_back, given_as, state_of};
 
 use crate::changes::{Changes, Was};
@@ -91,16 +90,6 @@ impl Undo {
     {
         self.changes
             .drop_newest(floor_at(&self.points).unwrap_or(0));
-    }
-
-    /// Tells whether these keys of the catalog are those of whole tables, by all changes of it that are kept: each column
-    /// goes exactly where its table does, and no index was made.
-    ///
-    /// `table` is the number of the catalog's first pointer page, `gone` are the keys that are taken back.
-    pub fn goes_whole(&self, table: u32, gone: &[Key]) -> bool
-        ensures { result ≡ is_whole table gone.now self.now.changes }
-    {
-        self.changes.goes_whole(table, gone)
     }
 
     /// Sets a point at the changes that are kept now.
