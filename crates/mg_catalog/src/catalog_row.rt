@@ -1,6 +1,6 @@
 //! Whether the rows of a catalog are lawful.
 
-ghost use Rattle.std.specs.Prelude.{◌≡◌, ◌↔◌, ◌<◌, ◌^◌, IsTrue, IfErr, OnOk, length};
+ghost use Rattle.std.specs.Prelude.{◌≡◌, ◌↔◌, IsTrue, IfErr, OnOk};
 ghost use Rattle.mg_model.specs.CatalogRules.{IsCatalog, IsCatalogRow};
 ghost use Rattle.mg_catalog.specs.ByKey.{by_key, row_key};
 ghost use Rattle.mg_catalog.specs.FirstBad.{IsFirstBad};
@@ -37,14 +37,13 @@ fn is_catalog_row(rows: &[Row], indexes: &[Bytes], row: &Row) -> bool
 ///
 /// `BadTable` with the place of the first row that is not.
 pub(crate) fn check_rows(rows: &[Row], indexes: &[Bytes]) -> Result<(), CatFault>
-    requires few { length rows.now < 2 ^ 31 }
     requires indexes { indexes.now ≡ all_indexes rows.now }
     ensures lawful { OnOk result (IsCatalog (by_key rows.now)) }
     ensures bad { IfErr result (λ fault. IsFirstBad rows.now fault) }
 {
     for at in 0..rows.len() {
         if !is_catalog_row(rows, indexes, &rows[at]) {
-            return Err(CatFault::BadTable { at: at as u32 });
+            return Err(CatFault::BadTable { at });
         }
     }
     Ok(())

@@ -11,7 +11,7 @@ use std::fmt;
 #[derive(Clone, Copy, Debug, PartialEq, Eq)]
 pub enum CatFault {
     /// The row at this place of the list is not lawful among the others.
-    BadTable { at: u32 },
+    BadTable { at: usize },
     Memory,
 }
 

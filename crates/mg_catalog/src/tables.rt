@@ -1,6 +1,6 @@
 //! The tables that the rows of a catalog name.
 
-ghost use Rattle.std.specs.Prelude.{◌≡◌, ◌≢◌, ◌<◌, ◌≤◌, ◌^◌, ◌++◌, IfErr, IfOk, OnOk, length};
+ghost use Rattle.std.specs.Prelude.{◌≡◌, ◌≢◌, ◌≤◌, ◌++◌, IfErr, IfOk, OnOk};
 ghost use Rattle.mg_model.specs.Catalog.{columns_said, key_said, table_key};
 ghost use Rattle.mg_model.specs.CatalogRules.{AreTables, IsCatalog, IsTable, primary_index};
 ghost use Rattle.mg_catalog.specs.ByKey.{by_key};
@@ -96,7 +96,6 @@ fn table_of(alloc: Global, rows: &[Row], indexes: &[Bytes], name: &[u8]) -> Resu
 ///
 /// `BadTable` with the place of the first row that is not lawful; `Memory`.
 pub fn tables_of(alloc: Global, rows: &[Row]) -> Result<Vec<Table>, CatFault>
-    requires { length rows.now < 2 ^ 31 }
     ensures tables { IfOk result (λ tables. AreTables (by_key rows.now) tables.items) }
     ensures bad { IfErr result (λ fault. IsFirstBad rows.now fault) }
 {

@@ -111,9 +111,6 @@ pub fn tables_with(
         (AreLawful image.now.size (image_facts image.now) found.now (has chosen.now))) }
 {
     let rows = shown_rows(alloc, image, chosen, found)?;
-    if rows.len() >= 1 << 31 {
-        return Err(ReadFault::Memory);
-    }
     match tables_of(alloc, &rows) {
         Ok(tables) => tables_that_fit(image, &rows, tables),
         Err(CatFault::BadTable { .. }) => Err(ReadFault::Broken(Rule::Pages)),

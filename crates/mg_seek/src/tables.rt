@@ -173,9 +173,6 @@ fn table_in(
 ) -> Result<Option<Table>, SpaceFault>
     ensures { MatchResult result (NamesTable rows.now name.now) (RefusesTables page.0 rows.now) }
 {
-    if rows.len() >= 1 << 31 {
-        return Err(SpaceFault::Pool(PoolFault::Memory));
-    }
     match tables_of(alloc, rows) {
         Ok(tables) => Ok(find_named(tables, name)),
         Err(CatFault::Memory) => Err(SpaceFault::Pool(PoolFault::Memory)),
@@ -205,13 +202,13 @@ fn has_name(table: &Table, name: &[u8]) -> bool
 }
 
 /// Rows of a catalog that name no tables.
-fn catalog_damage(page: PageNo, at: u32, len: usize) -> Damaged
+fn catalog_damage(page: PageNo, at: usize, len: usize) -> Damaged
     ensures { result ≡ damage page.0 Field.Catalog at len }
 {
     Damaged {
         page,
         field: Field::Catalog,
-        found: u64::from(at),
+        found: at as u64,
         wanted: len as u64,
     }
 }

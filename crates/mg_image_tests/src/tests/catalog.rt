@@ -260,7 +260,7 @@ fn rows_after(change: &Changed) -> [Said; 4] {
 // Tells whether rows are refused for the one at a place.
 fn is_refused(alloc: Global, said: &[Said], place: u32) -> Result<bool, Fail> {
     match read(alloc, said)? {
-        Err(CatFault::BadTable { at }) => Ok(at == place),
+        Err(CatFault::BadTable { at }) => Ok(at == place as usize),
         _ => Ok(false),
     }
 }
