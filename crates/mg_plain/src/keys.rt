@@ -4,7 +4,7 @@ ghost use Rattle.std.specs.Prelude.{◌≡◌, ◌<◌, ◌≤◌, IfOk, IfSome,
 ghost use Rattle.mg_model.specs.Catalog.{table_key as table_key_of, column_key as column_key_of, count_said as count_said_of, says_key as says_key_test, natural_of, said_name, kind_said, column_said};
 
 use mg_base::Memory;
-use mg_value::{Column, Kind, Name, Row, Txt, Value};
+use mg_value::{Column, Kind, Name, Row, Txt, Value, ValueFault};
 use std::alloc::Global;
 
 /// The text of these bytes as a value.
@@ -14,7 +14,8 @@ fn text(alloc: Global, bytes: &[u8]) -> Result<Value, Memory>
 {
     match Txt::new(alloc, bytes, u16::MAX) {
         Ok(text) => Ok(Value::Text(text)),
-        Err(_) => Err(Memory),
+        Err(ValueFault::Memory) => Err(Memory),
+        Err(ValueFault::TextTooLong { .. }) => unreachable!(),
     }
 }
 

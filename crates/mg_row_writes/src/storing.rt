@@ -11,7 +11,7 @@ use mg_base::{Bytes, Memory, PageNo, TxNo};
 use mg_model::Table;
 use mg_records::Write;
 use mg_rowcode::encode_row;
-use mg_value::{Column, Columns, Key, Name, Row, Shape, Txt, Value};
+use mg_value::{Column, Columns, Key, Name, Row, Shape, Txt, Value, ValueFault};
 use mg_version::Version;
 use std::alloc::Global;
 
@@ -169,6 +169,7 @@ pub fn table_key(alloc: Global, name: &Name) -> Result<Value, Memory>
     bytes.extend_from_slice(name.as_slice())?;
     match Txt::new(alloc, &bytes, u16::MAX) {
         Ok(text) => Ok(Value::Text(text)),
-        Err(_) => Err(Memory),
+        Err(ValueFault::Memory) => Err(Memory),
+        Err(ValueFault::TextTooLong { .. }) => unreachable!(),
     }
 }
