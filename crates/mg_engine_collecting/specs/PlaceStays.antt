@@ -296,7 +296,7 @@ module _ (one : RowsAreOne packed_coding) (one_way : StandsOneWay packed_form) (
 
       may : MayAnswer m places old stopped (Some refusal)
       may = fault_may m places old stopped from.before is.fault refusal up from.up_then
-          (from.so 0).goes.time.never_falls is.is (subst (λ (g : Geometry). NamesLimit g.limit refusal)
+          ((from.so 0).goes.time.never_falls, (from.so 0).goes.time.failed_writes) is.is (subst (λ (g : Geometry). NamesLimit g.limit refusal)
           (left_geometry m from.before new.store is.fault from.stops.left ∙ (from.so 0).goes.geometry) is.names)
           from.stops.told is.counts
 
