@@ -97,7 +97,7 @@ module _ (g : Geometry) (lawful : IsGeometry g) (at_end : List (List ℕ)) where
         below : inventory_page g.size (is.takes.page / bits g.size) < GREATEST_LIMIT
         below =
             let within = is.takes.takes.free.region in
-            let most = lawful.limit in omega (arith, within, most)
+            omega (arith, within)
 
     taking_inventory : HasInventory g.size old → HasInventory g.size new
     taking_inventory inventory region below = at (cases_eq (inventory_page g.size region) is.inventory)
