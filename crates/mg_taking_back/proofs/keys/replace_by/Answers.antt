@@ -18,7 +18,7 @@ returns-then-not-may_be_stored-clause-replaces g c = former_long c.in-Ok.version
     (λ may. false≢true (sym c.if-not-may_be_stored.true ∙ c.may_be_stored.ensures.1
     (subst (λ (g : Geometry). MayBeStored g.size c.args.table.now.pointer.0 c.in-Ok.version) (sym c.geometry.ensures)
     may)))
-    (ap (λ (it : Damaged). faults.Damaged it) c.unlawful-2.ensures) refl
+    (ap (λ (it : Damaged). faults.Damaged it) c.unlawful-then-not-may_be_stored.ensures) refl
 
 pub returns-clause-replaces : goal.returns-clause-replaces
 returns-clause-replaces g c = replaced_by g.D.Disk.meaning c.args.store.now c.replace_newest.new.store c.args.t.0
