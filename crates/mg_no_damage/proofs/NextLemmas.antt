@@ -130,31 +130,43 @@ was_left : (point : Point) (deeds : List Deed) (name : List ℕ) (key : Value) �
     → has_change (changes_since point deeds) name key ≡ false
     → was_in (changes_in deeds) name key ≡ was_in (changes_in (deeds_back point deeds)) name key
 was_left point [] name key there off = absurd (false≢true there)
-was_left LastMark (Changed c ∷ deeds) name key there off = at (is_at c name key) off
+was_left LastMark (Changed c ∷ deeds) name key there off =
+    at (is_at c name key) off (λ off_. was_left LastMark deeds name key there off_)
   where
     at : (b : Bool) → (if b then true else has_change (changes_since LastMark deeds) name key) ≡ false
+        → (has_change (changes_since LastMark deeds) name key ≡ false
+        → was_in (changes_in deeds) name key ≡ was_in (changes_in (deeds_back LastMark deeds)) name key)
         → (if b then was_given c.row else was_in (changes_in deeds) name key)
         ≡ was_in (changes_in (deeds_back LastMark deeds)) name key
-    at true off_ = absurd (false≢true (sym off_))
-    at false off_ = was_left LastMark deeds name key there off_
+    at true off_ later = absurd (false≢true (sym off_))
+    at false off_ later = later off_
 was_left LastMark (Marked ∷ deeds) name key there off = refl
 was_left LastMark (Saved saved ∷ deeds) name key there off = was_left LastMark deeds name key there off
-was_left (SavepointNamed its) (Changed c ∷ deeds) name key there off = at (is_at c name key) off
+was_left (SavepointNamed its) (Changed c ∷ deeds) name key there off =
+    at (is_at c name key) off (λ off_. was_left (SavepointNamed its) deeds name key there off_)
   where
     at : (b : Bool) → (if b then true else has_change (changes_since (SavepointNamed its) deeds) name key) ≡ false
+        → (has_change (changes_since (SavepointNamed its) deeds) name key ≡ false
+        → was_in (changes_in deeds) name key ≡ was_in (changes_in (deeds_back (SavepointNamed its) deeds)) name key)
         → (if b then was_given c.row else was_in (changes_in deeds) name key)
         ≡ was_in (changes_in (deeds_back (SavepointNamed its) deeds)) name key
-    at true off_ = absurd (false≢true (sym off_))
-    at false off_ = was_left (SavepointNamed its) deeds name key there off_
+    at true off_ later = absurd (false≢true (sym off_))
+    at false off_ later = later off_
 was_left (SavepointNamed its) (Marked ∷ deeds) name key there off = was_left (SavepointNamed its) deeds name key there off
-was_left (SavepointNamed its) (Saved saved ∷ deeds) name key there off = at (same_name its saved) there off
+was_left (SavepointNamed its) (Saved saved ∷ deeds) name key there off =
+    at (same_name its saved) there off
+    (λ there_ off_. was_left (SavepointNamed its) deeds name key there_ off_)
   where
     at : (b : Bool) → (b || has_deed (SavepointNamed its) deeds) ≡ true
         → has_change (if b then [] else changes_since (SavepointNamed its) deeds) name key ≡ false
+        → (has_deed (SavepointNamed its) deeds ≡ true
+        → has_change (changes_since (SavepointNamed its) deeds) name key ≡ false
+        → was_in (changes_in deeds) name key
+        ≡ was_in (changes_in (deeds_back (SavepointNamed its) deeds)) name key)
         → was_in (changes_in deeds) name key ≡ was_in (changes_in (cond b (Saved saved ∷ deeds)
         (deeds_back (SavepointNamed its) deeds))) name key
-    at true there_ off_ = refl
-    at false there_ off_ = was_left (SavepointNamed its) deeds name key there_ off_
+    at true there_ off_ later = refl
+    at false there_ off_ later = later there_ off_
 
 -- what was left of a key that was changed since a point may come back to the table that is kept
 returns_since : (catalog : ℕ) (written : List Table) (number : List ℕ → ℕ) (point : Point) (deeds : List Deed)
@@ -165,6 +177,7 @@ returns_since : (catalog : ℕ) (written : List Table) (number : List ℕ → �
 returns_since catalog written number point [] name key there has_ are = absurd (false≢true has_)
 returns_since catalog written number LastMark (Changed c ∷ deeds) name key there has_ are =
     on (has_change (changes_since LastMark deeds) name key) refl
+    (λ later. returns_since catalog written number LastMark deeds name key there later are.1)
   where
     here : has_change (changes_since LastMark deeds) name key ≡ false → (b : Bool) → is_at c name key ≡ b
         → (if b then true else has_change (changes_since LastMark deeds) name key) ≡ true
@@ -181,15 +194,19 @@ returns_since catalog written number LastMark (Changed c ∷ deeds) name key the
         (was_in (changes_in deeds) n c.key)) (same_text c.table name (sym parts.0)) are.0))
 
     on : (b : Bool) → has_change (changes_since LastMark deeds) name key ≡ b
+        → (has_change (changes_since LastMark deeds) name key ≡ true
+        → (number name ≡ catalog) ⊎ MayReturnTo (written_in written (number name)) key
+        (was_in (changes_in (deeds_back LastMark deeds)) name key))
         → (number name ≡ catalog) ⊎ MayReturnTo (written_in written (number name)) key
         (was_in (changes_in (deeds_back LastMark deeds)) name key)
-    on true later = returns_since catalog written number LastMark deeds name key there later are.1
-    on false off = here off (is_at c name key) refl has_
+    on true there_ later = later there_
+    on false off later = here off (is_at c name key) refl has_
 returns_since catalog written number LastMark (Marked ∷ deeds) name key there has_ are = absurd (false≢true has_)
 returns_since catalog written number LastMark (Saved saved ∷ deeds) name key there has_ are =
     returns_since catalog written number LastMark deeds name key there has_ are
 returns_since catalog written number (SavepointNamed its) (Changed c ∷ deeds) name key there has_ are =
     on (has_change (changes_since (SavepointNamed its) deeds) name key) refl
+    (λ later. returns_since catalog written number (SavepointNamed its) deeds name key there later are.1)
   where
     here : has_change (changes_since (SavepointNamed its) deeds) name key ≡ false → (b : Bool) → is_at c name key ≡ b
         → (if b then true else has_change (changes_since (SavepointNamed its) deeds) name key) ≡ true
@@ -206,21 +223,29 @@ returns_since catalog written number (SavepointNamed its) (Changed c ∷ deeds) 
         (was_in (changes_in deeds) n c.key)) (same_text c.table name (sym parts.0)) are.0))
 
     on : (b : Bool) → has_change (changes_since (SavepointNamed its) deeds) name key ≡ b
+        → (has_change (changes_since (SavepointNamed its) deeds) name key ≡ true
+        → (number name ≡ catalog) ⊎ MayReturnTo (written_in written (number name)) key
+        (was_in (changes_in (deeds_back (SavepointNamed its) deeds)) name key))
         → (number name ≡ catalog) ⊎ MayReturnTo (written_in written (number name)) key
         (was_in (changes_in (deeds_back (SavepointNamed its) deeds)) name key)
-    on true later = returns_since catalog written number (SavepointNamed its) deeds name key there later are.1
-    on false off = here off (is_at c name key) refl has_
+    on true there_ later = later there_
+    on false off later = here off (is_at c name key) refl has_
 returns_since catalog written number (SavepointNamed its) (Marked ∷ deeds) name key there has_ are =
     returns_since catalog written number (SavepointNamed its) deeds name key there has_ are
 returns_since catalog written number (SavepointNamed its) (Saved saved ∷ deeds) name key there has_ are =
     at (same_name its saved) there has_
+    (λ there_ it. returns_since catalog written number (SavepointNamed its) deeds name key there_ it are)
   where
     at : (b : Bool) → (b || has_deed (SavepointNamed its) deeds) ≡ true
         → has_change (if b then [] else changes_since (SavepointNamed its) deeds) name key ≡ true
+        → (has_deed (SavepointNamed its) deeds ≡ true
+        → has_change (changes_since (SavepointNamed its) deeds) name key ≡ true
+        → (number name ≡ catalog) ⊎ MayReturnTo (written_in written (number name)) key
+        (was_in (changes_in (deeds_back (SavepointNamed its) deeds)) name key))
         → (number name ≡ catalog) ⊎ MayReturnTo (written_in written (number name)) key (was_in (changes_in
         (cond b (Saved saved ∷ deeds) (deeds_back (SavepointNamed its) deeds))) name key)
-    at true there_ it = absurd (false≢true it)
-    at false there_ it = returns_since catalog written number (SavepointNamed its) deeds name key there_ it are
+    at true there_ it later = absurd (false≢true it)
+    at false there_ it later = later there_ it
 
 told_returns : (catalog : ℕ) (written : List Table) (number : List ℕ → ℕ) (point : Point) (deeds : List Deed)
     (name : List ℕ) (key : Value) → has_change (since_point point deeds) name key ≡ true
