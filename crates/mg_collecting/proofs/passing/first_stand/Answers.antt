@@ -103,3 +103,9 @@ returns-clause-gives g c = λ image tells. λ es has.
     c.in-Some.first.rec.page.0 c.in-Some-back.second (Ok c.in_ok-behind.behind)
     (keeps_on g.D.Disk.meaning g.met.D.Disk.counts_now c.args.store.now c.newest.new.store c.version.new.store
     c.in_ok-first.ensures.keeps c.in_ok-met.ensures.keeps) tells c.in_ok-behind.ensures.gives)
+
+pub returns-clause-keeps : goal.returns-clause-keeps
+returns-clause-keeps g c = keeps_on g.D.Disk.meaning g.met.D.Disk.counts_now c.args.store.now c.version.new.store
+    c.version-2.new.store
+    (keeps_on g.D.Disk.meaning g.met.D.Disk.counts_now c.args.store.now c.newest.new.store c.version.new.store
+    c.in_ok-first.ensures.keeps c.in_ok-met.ensures.keeps) c.in_ok-behind.ensures.keeps
