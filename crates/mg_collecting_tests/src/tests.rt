@@ -7,7 +7,7 @@ ghost use Rattle.mg_pool.specs.Pool.{IsPool};
 ghost use Rattle.mg_slots.specs.DataPage.{IsDataPage};
 ghost use Rattle.mg_space.specs.Taking.{IsGeometry};
 
-use mg_base::{Geometry, MemDisk, Memory, PageNo, RecId, TxNo, TxState};
+use mg_base::{Disk, Geometry, MemDisk, Memory, PageNo, RecId, TxNo, TxState};
 use mg_chain::{States, newest_link, version_at};
 use mg_collecting::collect_record;
 use mg_pointer::{add_entry, new_pointer};
@@ -78,8 +78,12 @@ fn empty_store(alloc: Global) -> Result<Store<MemDisk>, Memory>
     ensures pool { IfOk result (λ store. IsPool mem_meaning store) }
     ensures geometry { IfOk result (λ store. IsGeometry store.geometry) }
     ensures size { IfOk result (λ store. store.geometry.size ≡ 1024) }
+    ensures limit { IfOk result (λ store. store.geometry.limit ≡ 16) }
 {
-    let disk = MemDisk::new(alloc, 1024, 16, 16)?;
+    let mut disk = MemDisk::new(alloc, 1024, 16, 16)?;
+    let Ok(0) = disk.pages() else {
+        return Err(Memory);
+    };
     let geometry = Geometry {
         size: 1024,
         limit: 16,
@@ -95,10 +99,12 @@ fn put_page(store: &mut Store<MemDisk>, page: PageNo, bytes: &[u8; 1024]) -> Res
     requires pool { IsPool mem_meaning store.old }
     requires geometry { IsGeometry store.old.geometry }
     requires size { store.old.geometry.size ≡ 1024 }
+    requires limit { store.old.geometry.limit ≡ 16 }
     requires below { page.0 < 16 }
     ensures pool { IsPool mem_meaning store.new }
     ensures geometry { IsGeometry store.new.geometry }
     ensures size { store.new.geometry.size ≡ 1024 }
+    ensures limit { store.new.geometry.limit ≡ 16 }
 {
     match store.change_one(page, bytes, None) {
         Ok(()) => Ok(()),
