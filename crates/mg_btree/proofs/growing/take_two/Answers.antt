@@ -1,3 +1,4 @@
+use Rattle.mg_space.specs.WholeLaws.{whole_kept}
 use Rattle.std.proofs.Common.{◌<◌, refl, subst, Ok}
 use Rattle.mg_base.specs.declared.geometry.Geometry.{Geometry}
 use Rattle.mg_space.specs.BelowLaws.{taken_below}
@@ -126,3 +127,9 @@ pub returns-clause-second : goal.returns-clause-second
 returns-clause-second g c = subst (λ (k : Geometry). c.in_ok-second.second.0 < k.limit)
     c.in_ok-first.ensures.keeps.geometry
     (taken_below c.take_page.new.store.geometry c.in_ok-second.second.0 c.in_ok-second.ensures.puts.below)
+
+pub take_page-requires-2-clause-whole : goal.take_page-requires-2-clause-whole
+take_page-requires-2-clause-whole g c = whole_kept g.D.Disk.meaning c.args.store.now
+    c.take_page.new.store c.take_page.new.batch.pages c.in_ok-first.ensures.keeps
+    (taken_whole c.args.store.now.geometry c.args.batch.now c.take_page.new.batch c.in_ok-first.first.0
+    c.requires.whole c.in_ok-first.ensures.puts)

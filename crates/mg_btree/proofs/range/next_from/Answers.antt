@@ -1,3 +1,4 @@
+use Rattle.mg_space.specs.WholeLaws.{whole_kept}
 use Rattle.std.proofs.Common.{rules}
 use Rattle.std.specs.Prelude.{IfSome}
 use Rattle.mg_btree.specs.Ranges.{IsInRange}
@@ -96,3 +97,7 @@ returns-in_err-leaf-in-GoesOn-clause-within g c = ok_of_err (λ (step : Step). I
 
 pub returns-clause-within : goal.returns-clause-within
 returns-clause-within g c = tt
+
+pub node_on-requires-clause-whole : goal.node_on-requires-clause-whole
+node_on-requires-clause-whole g c = whole_kept g.D.Disk.meaning c.args.store.now c.loop-passed.store c.args.batch.now.pages
+    c.loop-passed.invariant.keeps c.requires.whole

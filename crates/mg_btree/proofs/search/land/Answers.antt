@@ -1,3 +1,4 @@
+use Rattle.mg_space.specs.WholeLaws.{whole_kept}
 use Rattle.std.proofs.Common.{rules, ◌<◌, refl, Ok}
 use Rattle.mg_btree.specs.ExitLaws.{reads_ok}
 use Rattle.mg_btree.specs.LandingLaws.{here_below, here_comes, here_reached, landing_next, landing_refused}
@@ -102,3 +103,7 @@ returns-in-Here-clause-below g c = here_below g.D.Disk.meaning c.args.store.now 
 
 pub returns-clause-below : goal.returns-clause-below
 returns-clause-below g c = tt
+
+pub node_on-requires-clause-whole : goal.node_on-requires-clause-whole
+node_on-requires-clause-whole g c = whole_kept g.D.Disk.meaning c.args.store.now c.loop.store c.args.batch.now.pages
+    c.loop.invariant.keeps c.requires.whole

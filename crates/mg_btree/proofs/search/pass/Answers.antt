@@ -1,3 +1,4 @@
+use Rattle.mg_space.specs.WholeLaws.{whole_kept}
 use Rattle.std.proofs.Common.{rules, refl, sym, Ok, Err, ap, ◌∙◌, ℕ, length}
 use Rattle.mg_base.specs.declared.geometry.Geometry.{Geometry}
 use Rattle.mg_node.specs.NodePage.{level_in, right_in}
@@ -108,3 +109,7 @@ pub child_on-requires-clause-inner : goal.child_on-requires-clause-inner
 child_on-requires-clause-inner g c = inner_of c.as_slice-then-is_under.result.now c.args.level
     (ap level_in (c.as_slice-then-is_under.ensures ∙ sym c.as_slice.ensures)
     ∙ (c.in_ok-check_above.ensures.0 refl).1) c.requires.inner
+
+pub bytes_of-requires-clause-whole : goal.bytes_of-requires-clause-whole
+bytes_of-requires-clause-whole g c = whole_kept g.D.Disk.meaning c.args.store.now c.loop.store c.args.batch.now.pages
+    c.loop.invariant.keeps c.requires.whole
