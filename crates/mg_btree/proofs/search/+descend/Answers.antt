@@ -1,7 +1,8 @@
+use Rattle.mg_space.specs.WholeLaws.{whole_kept}
 use Rattle.std.proofs.Common.{rules, ◌-◌, ◌<◌, refl, subst, ℕ, Ok}
 use Rattle.std.specs.Prelude.{IfOk}
 use Rattle.mg_base.specs.declared.numbers.PageNo.{PageNo}
-use Rattle.mg_space.specs.View.{viewed}
+use Rattle.mg_space.specs.View.{viewed, AreWhole}
 use Rattle.mg_btree.specs.declared.node.ReadNode.{ReadNode}
 use Rattle.mg_btree.specs.PassLaws.{comes_below, pass_refused}
 use Rattle.mg_btree.specs.ReadingLaws.{ok_of_err, reads_on}
@@ -65,3 +66,10 @@ returns-in_err-child-clause-below g t c = ok_of_err (λ (read : ReadNode). read.
 pub returns-clause-below : goal.returns-clause-below
 returns-clause-below g t c = subst (λ (k : Geometry). IfOk c.descend.result (λ read. read.page.0 < k.limit))
     c.in_ok-child.ensures.reads.keeps.geometry c.descend.ensures.below
+
+pub descend-requires : goal.descend-requires
+descend-requires g t c =
+    let whole : AreWhole c.pass.new.store.geometry c.args.batch.now.pages =
+    whole_kept g.D.Disk.meaning c.args.store.now c.pass.new.store c.args.batch.now.pages
+    c.in_ok-child.ensures.reads.keeps c.requires.whole in
+    (search rules)
