@@ -102,6 +102,9 @@ fn change_page(store: &mut Store<MemDisk>, batch: &Batch, page: u32) -> Result<(
     ensures pool { IsPool mem_meaning store.new }
     ensures geometry { store.new.geometry ≡ store.old.geometry }
 {
+    if page >= store.geometry().limit {
+        return Err(PoolFault::Memory);
+    }
     let Some(bytes) = batch.bytes(PageNo(page)) else {
         return Ok(());
     };

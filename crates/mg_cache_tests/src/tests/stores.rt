@@ -117,8 +117,6 @@ pub fn new_table(alloc: Global, limit: u32) -> Result<Table, Memory>
     ensures whole { IfOk result (λ it. AreWhole it.store.geometry it.batch.pages) }
 {
     let batch = empty_table(alloc)?;
-    Ok(Table {
-        store: empty_store(alloc, limit)?,
-        batch,
-    })
+    let store = empty_store(alloc, limit)?;
+    Ok(Table { store, batch })
 }

@@ -1,7 +1,7 @@
 //! What no clause says: that calls succeed with ample memory, and worked rows of the page
 //! inventory.
 
-ghost use Rattle.std.specs.Prelude.{◌≡◌};
+ghost use Rattle.std.specs.Prelude.{◌≡◌, ◌<◌, ◌≤◌, IfOk};
 ghost use Rattle.mg_base.specs.MemDisk.{mem_meaning};
 ghost use Rattle.mg_pool.specs.Pool.{IsPool};
 ghost use Rattle.mg_space.specs.Taking.{IsGeometry};
@@ -63,6 +63,20 @@ impl Bench for Inventory {
     }
 }
 
+/// A store below a limit, and a batch in which so many of the first pages are used.
+fn new_inventory(alloc: Global, limit: u32, used: u32) -> Result<Inventory, Memory>
+    requires limit { 1 < limit }
+    requires used { used ≤ 8064 }
+    ensures pool { IfOk result (λ it. IsPool mem_meaning it.store) }
+    ensures geometry { IfOk result (λ it. IsGeometry it.store.geometry) }
+    ensures size { IfOk result (λ it. it.store.geometry.size ≡ 1024) }
+    ensures whole { IfOk result (λ it. AreWhole it.store.geometry it.batch.pages) }
+{
+    let batch = batch_with(alloc, used)?;
+    let store = empty_store(alloc, limit)?;
+    Ok(Inventory { store, batch })
+}
+
 impl Begins for Inventory {
     /// The limit of the file, and how many of the first pages are used.
     type From = (u32, u32);
@@ -72,11 +86,7 @@ impl Begins for Inventory {
         if limit < 2 {
             return Err(Memory);
         }
-        let batch = batch_with(alloc, used.min(8064))?;
-        Ok(Inventory {
-            store: empty_store(alloc, limit)?,
-            batch,
-        })
+        new_inventory(alloc, limit, used.min(8064))
     }
 }
 
