@@ -9,7 +9,7 @@ ghost use Rattle.mg_catalog.specs.RowsSaid.{column_row, column_rows, flags_of, i
 
 use mg_base::Memory;
 use mg_model::{Index, Table};
-use mg_value::{Column, Kind, Name, Row, Txt, Value};
+use mg_value::{Column, Kind, Name, Row, Txt, Value, ValueFault};
 use std::alloc::Global;
 
 /// A text of the catalog has at most this many bytes: a key with a letter, a name and 3 bytes more.
@@ -31,8 +31,8 @@ fn text_of(alloc: Global, bytes: &[u8]) -> Result<Value, Memory>
 {
     match Txt::new(alloc, bytes, MOST_TEXT) {
         Ok(text) => Ok(Value::Text(text)),
-        // The text is not too long, so memory is what was wanting.
-        Err(_) => Err(Memory),
+        Err(ValueFault::Memory) => Err(Memory),
+        Err(ValueFault::TextTooLong { .. }) => unreachable!(),
     }
 }
 

@@ -4,3 +4,4 @@ pub mod ValueLemmas
 pub mod RowLemmas
 pub mod LawLemmas
 pub mod PutLemmas
+pub mod StorableLemmas

@@ -6,12 +6,13 @@ ghost use Rattle.std.specs.List.{sum_by};
 ghost use Rattle.mg_value.specs.declared.value.Value.TheVariants.{Null};
 ghost use Rattle.mg_value.specs.Rows.{columns_of, width_of, row_len_of, RowFits};
 ghost use Rattle.mg_rowcode.specs.Faults.{IsRowOf, RefusesBytes};
+ghost use Rattle.mg_rowcode.specs.Storable.{AreStorable, IsStorable};
 ghost use Rattle.mg_rowcode.specs.Reading.{at_length, flags_of_byte, flags_of, text_len, value_in, values_in, nearest_row, near_to, IsCommonFront};
 
 use crate::encoding::{plain_row, put_zeros};
 use crate::fault::RowFault;
 use mg_base::Memory;
-use mg_value::{Column, Kind, MOST_COLUMNS, Txt, Value, columns_len};
+use mg_value::{Column, Kind, MOST_COLUMNS, Txt, Value, ValueFault, columns_len};
 use std::alloc::Global;
 
 /// Appends, for up to eight columns, whether a byte says that they are NULL, where they may be.
@@ -45,6 +46,7 @@ fn text_len_of(most: u16, bytes: &[u8]) -> usize
     requires { 2 ≤ length bytes.now }
     ensures len { result ≡ text_len most bytes.now }
     ensures fits { result ≤ most }
+    ensures short { result < 2 ^ 16 }
 {
     let len = u16::from_le_bytes([bytes[0], bytes[1]]);
     let low = u16::from(bytes[0]);
@@ -61,6 +63,7 @@ fn text_len_of(most: u16, bytes: &[u8]) -> usize
 fn read_value(alloc: Global, kind: Kind, is_null: bool, bytes: &[u8]) -> Result<Value, RowFault>
     requires { length bytes.now ≡ width_of kind }
     ensures ok { IfOk result (λ value. value ≡ value_in kind is_null bytes.now) }
+    ensures storable { IfOk result IsStorable }
     ensures err { IfErr result (λ fault. fault ≡ RowFault.Memory) }
 {
     if is_null {
@@ -74,7 +77,8 @@ fn read_value(alloc: Global, kind: Kind, is_null: bool, bytes: &[u8]) -> Result<
             let len = text_len_of(most, bytes);
             match Txt::new(alloc, &bytes[2..2 + len], most) {
                 Ok(text) => Ok(Value::Text(text)),
-                Err(_) => Err(RowFault::Memory),
+                Err(ValueFault::Memory) => Err(RowFault::Memory),
+                Err(ValueFault::TextTooLong { .. }) => unreachable!(),
             }
         }
     }
@@ -90,6 +94,7 @@ fn read_values(
     requires flags { length flags.now ≡ length columns.now }
     requires room { sum_by (λ column. width_of column.kind) columns.now ≤ length bytes.now }
     ensures ok { IfOk result (λ values. values.items ≡ values_in columns.now flags.now bytes.now) }
+    ensures storable { IfOk result (λ values. AreStorable values.items) }
     ensures err { IfErr result (λ fault. fault ≡ RowFault.Memory) }
 {
     let mut values = Vec::with_capacity(alloc, columns.len())?;
@@ -117,6 +122,7 @@ fn common_len(a: &[u8], b: &[u8]) -> usize
 fn nearest(alloc: Global, columns: &[Column], bytes: &[u8]) -> Result<Vec<Value>, RowFault>
     requires { length bytes.now ≡ row_len_of columns.now }
     ensures ok { IfOk result (λ values. values.items ≡ nearest_row columns.now bytes.now) }
+    ensures storable { IfOk result (λ values. AreStorable values.items) }
     ensures err { IfErr result (λ fault. fault ≡ RowFault.Memory) }
 {
     let (bits, rest) = bytes.split_at(columns.len().div_ceil(8));
@@ -146,6 +152,7 @@ fn nearest_to(
     requires { len ≡ row_len_of columns.now }
     ensures ok { IfOk result (λ values. values.items ≡ near_to columns.now plain.now) }
     ensures fits { IfOk result (λ values. RowFits columns.now values.items) }
+    ensures storable { IfOk result (λ values. AreStorable values.items) }
     ensures err { IfErr result (λ fault. fault ≡ RowFault.Memory) }
 {
     let whole = copy_at_length(alloc, plain, len)?;
@@ -161,6 +168,7 @@ pub(crate) fn decode_plain(
 ) -> Result<Vec<Value>, RowFault>
     requires { length columns.now ≤ MOST_COLUMNS }
     ensures ok { IfOk result (λ values. IsRowOf columns.now plain.now values.items) }
+    ensures storable { IfOk result (λ values. AreStorable values.items) }
     ensures err { IfErr result (RefusesBytes columns.now plain.now) }
 {
     let len = columns_len(columns);

@@ -5,6 +5,7 @@ ghost use Rattle.mg_rle.specs.Runs.{StandsFor};
 ghost use Rattle.mg_value.specs.declared.value.Value.TheVariants.{Null};
 ghost use Rattle.mg_value.specs.Rows.{columns_of};
 ghost use Rattle.mg_rowcode.specs.Faults.{DecodesTo, Refuses, RefusesRun};
+ghost use Rattle.mg_rowcode.specs.Storable.{AreStorable};
 
 use crate::decoding::decode_plain;
 use crate::fault::RowFault;
@@ -59,6 +60,7 @@ pub fn decode_row(alloc: Global, s: &Shape, format: u16, packed: &[u8]) -> Resul
     requires columns { length s.now.columns ≤ MOST_COLUMNS }
     requires len { length packed.now < 2 ^ 31 }
     ensures ok { IfOk result (DecodesTo s.now.columns format packed.now) }
+    ensures storable { IfOk result AreStorable }
     ensures err { IfErr result (Refuses (columns_of s.now.columns format) packed.now) }
 {
     let plain = unpacked(alloc, packed)?;

@@ -5,10 +5,10 @@ ghost use Rattle.mg_chain.specs.Refusals.{damage, length_wanted as length_wanted
 ghost use Rattle.mg_image.specs.Records.{key_of};
 ghost use Rattle.mg_image.specs.RecordRules.{columns_for};
 ghost use Rattle.mg_rowcode.specs.Faults.{DecodesTo};
-ghost use Rattle.mg_rowcode.specs.Storable.{AreStorable, IsStorable};
+ghost use Rattle.mg_rowcode.specs.Storable.{AreStorable};
 ghost use Rattle.mg_slots.specs.declared.page.TheConstants.{GREATEST_SIZE};
 ghost use Rattle.mg_value.specs.Rows.{columns_of, row_len_of};
-ghost use Rattle.mg_seek.specs.Rows.{GivesRow, HasShortTexts, IsBodyDamage, IsShortText, RefusesBody, RefusesRowOf};
+ghost use Rattle.mg_seek.specs.Rows.{GivesRow, IsBodyDamage, RefusesBody, RefusesRowOf};
 
 use crate::erased::erased_shape;
 use crate::walk::Placed;
@@ -50,20 +50,6 @@ fn coded_row(alloc: Global, shape: &Shape, placed: &Placed) -> Result<Row, Space
     ensures coded { IfOk result (λ row. DecodesTo shape.now.columns placed.now.version.format
         placed.now.version.body row) }
     ensures storable { IfOk result AreStorable }
-    ensures refused { IfErr result (RefusesBody shape.now.columns placed.now) }
-{
-    let row = decoded_row(alloc, shape, placed)?;
-    columns_len(shape.columns.as_slice());
-    note_ranges(row.as_slice());
-    Ok(row)
-}
-
-/// The row that a body decodes to.
-fn decoded_row(alloc: Global, shape: &Shape, placed: &Placed) -> Result<Row, SpaceFault>
-    requires columns { length shape.now.columns ≤ MOST_COLUMNS }
-    requires short { length placed.now.version.body ≤ GREATEST_SIZE }
-    ensures coded { IfOk result (λ row. DecodesTo shape.now.columns placed.now.version.format
-        placed.now.version.body row) }
     ensures refused { IfErr result (RefusesBody shape.now.columns placed.now) }
 {
     let version = &placed.version;
@@ -111,32 +97,6 @@ fn columns_in(columns: &[Column], format: u16) -> &[Column]
         count += 1;
     }
     &columns[..count]
-}
-
-/// Reads each value, so that its range is known.
-fn note_ranges(values: &[Value])
-    requires { HasShortTexts values.now }
-    ensures { AreStorable values.now }
-{
-    let mut rest = values;
-    while let Some((value, later)) = rest.split_first() {
-        note_range(value);
-        rest = later;
-    }
-}
-
-/// Reads a value, so that its range is known.
-fn note_range(value: &Value)
-    requires { IsShortText value.now }
-    ensures { IsStorable value.now }
-{
-    match value {
-        Value::Null => {}
-        Value::Int(number) => {
-            let _number = *number;
-        }
-        Value::Text(_) => {}
-    }
 }
 
 /// Tells whether a row of a table has a key.

@@ -1,5 +1,7 @@
 use Rattle.std.proofs.Common.{◌<◌, ℕ, sym, subst}
 use Rattle.mg_rowcode.proofs.PutLemmas.{room_here, room_later, value_read, values_read}
+use Rattle.mg_rowcode.proofs.StorableLemmas.{storable_one}
+use Rattle.mg_rowcode.specs.Storable.{AreStorable}
 use Rattle.mg_rowcode.proofs.decoding.read_values.Goals as goal
 
 pub split_at-requires : goal.split_at-requires
@@ -17,6 +19,8 @@ loop-i-preserved c = record {
       (subst (λ (n : ℕ). c.loop-i.i < n) (sym c.requires.flags) c.loop-i-test.true) c.width.ensures.width
       c.split_at.ensures.front c.split_at.ensures.back c.in_ok-read_value.ensures.ok
       c.in_ok-push.ensures.items c.loop-i.invariant.complete;
+  storable = subst AreStorable (sym c.in_ok-push.ensures.items) (storable_one c.loop-i.values.items _
+      c.loop-i.invariant.storable c.in_ok-read_value.ensures.storable);
 }
 
 pub returns-clause-ok : goal.returns-clause-ok
