@@ -14,3 +14,4 @@ pub mod ApartLemmas
 pub mod HandedLemmas
 pub mod PageLemmas
 pub mod EntryLemmas
+pub mod LastRoomLemmas

@@ -1,5 +1,5 @@
 -- Lemmas of looking up the data page at a place.
-use Rattle.std.proofs.Common.{◌≡◌, ◌≢◌, ◌<◌, ◌≤◌, ◌+◌, ◌*◌, ◌-◌, ◌^◌, ◌++◌, ◌∷◌, [], ◌∙◌, ℕ, true, List, None, Some, length, length-append, get_or, refl, sym, ap, subst, arith}
+use Rattle.std.proofs.Common.{◌≡◌, ◌≢◌, ◌<◌, ◌≤◌, ◌+◌, ◌*◌, ◌-◌, ◌^◌, ◌++◌, ◌∷◌, [], ◌∙◌, ℕ, true, List, Option, None, Some, length, length-append, get_or, refl, sym, ap, subst, arith}
 use Rattle.std.proofs.lemmas.List.{get_or-append-add}
 use Rattle.mg_base.specs.Checks.{PassesAll}
 use Rattle.mg_base.specs.Disk.{Meaning}
@@ -13,11 +13,14 @@ use Rattle.mg_pool.specs.declared.batch.BatchPage.{BatchPage}
 use Rattle.mg_pool.specs.declared.pool.Pool.{Pool}
 use Rattle.mg_space.specs.declared.fault.SpaceFault.{SpaceFault}
 use Rattle.mg_space.specs.declared.fault.SpaceFault.TheVariants as faults
-use Rattle.mg_heap.specs.Places.{FindsPlace, LooksUp, Passes, RefusesPlace, Says}
-use Rattle.mg_heap.specs.Table.{LeadsTo, LinksTo, ListsPage, RefusesPointer}
-use Rattle.mg_heap.specs.TableLaws.{entries_push, leads_on}
+use Rattle.mg_heap.specs.Places.{EndsBefore, FindsPlace, HasCount, IsFew, IsPageIn, LooksUp, Passes, Reaches, RefusesPlace, Says}
+use Rattle.mg_heap.specs.Table.{LeadsTo, LinksTo, ListsPage, RefusesPointer, RefusesTable}
+use Rattle.mg_heap.specs.TableLaws.{entries_push, leads_on, table_ends}
 use Rattle.mg_heap.specs.declared.lookup.Look.{Look}
 use Rattle.mg_heap.specs.declared.lookup.Look.TheVariants.{Here, Past}
+use Rattle.mg_heap.specs.declared.lookup.Reached.{Reached}
+use Rattle.mg_heap.specs.declared.lookup.Reached.TheVariants.{At, End}
+use Rattle.std.specs.Prelude.{IfSome}
 use Rattle.mg_heap.proofs.TableLemmas.{entries_few, lists_page, tested_at}
 
 -- ---- one pointer page
@@ -171,14 +174,61 @@ module _ (pages : Pages) (owner place : ℕ) (pointers : List ℕ) (n rest : ℕ
       there : place ≡ length (entries_in pages pointers) + rest
       there = omega (arith, passed)
 
-  pub none_found : n ≡ 0 → FindsPlace pages owner place None
-  none_found zero_ = record {
+  pub ends_here : n ≡ 0 → EndsBefore pages owner place rest
+  ends_here zero_ = record {
     pointers = pointers;
     data_pages = entries_in pages pointers;
-    next = n;
-    front = record { leads = leads; entries = refl };
-    is_entry = (zero_, omega (arith, passed));
+    front = record { leads = subst (LeadsTo pages owner pointers) zero_ leads; entries = refl };
+    passed = passed;
   }
+
+-- ---- what was reached
+
+pub page_few : (place : ℕ) (reached : Reached) (found : Option PageNo) → IsPageIn reached found
+    → IsFew place reached → IfSome found (λ page. place + 1 < 2 ^ 32)
+page_few place (At page) found is few =
+    subst (λ (o : Option PageNo). IfSome o (λ page. place + 1 < 2 ^ 32)) (sym is) few
+page_few place (End left) found is few =
+    subst (λ (o : Option PageNo). IfSome o (λ page. place + 1 < 2 ^ 32)) (sym is) tt
+
+pub page_reached : (pages : Pages) (owner place : ℕ) (reached : Reached) (found : Option PageNo)
+    → IsPageIn reached found → Reaches pages owner place reached → FindsPlace pages owner place found
+page_reached pages owner place (At page) found is reaches =
+    subst (FindsPlace pages owner place) (sym is) reaches
+page_reached pages owner place (End left) found is reaches =
+    subst (FindsPlace pages owner place) (sym is) (record {
+      pointers = reaches.pointers;
+      data_pages = reaches.data_pages;
+      next = 0;
+      front = reaches.front;
+      is_entry = (refl, (let passed = reaches.passed in omega (arith, passed)));
+    })
+
+pub counted : (pages : Pages) (owner : ℕ) (reached : Reached) (count : ℕ) → IsFew 4294967295 reached
+    → ((left : ℕ) → reached ≡ End left → count + left ≡ 4294967295)
+    → Reaches pages owner 4294967295 reached → HasCount pages owner count
+counted pages owner (At page) count few is reaches = absurd (omega (arith, few))
+counted pages owner (End left) count few is reaches = record {
+  pointers = reaches.pointers;
+  data_pages = reaches.data_pages;
+  table = table_ends pages owner reaches.pointers reaches.data_pages 0 reaches.front.leads refl
+      reaches.front.entries;
+  count_is = let passed = reaches.passed in let told = is left refl in omega (arith, passed, told);
+}
+
+-- the table is not found either
+pub table_refused : {D L : Type 0} (m : Meaning D) (store : Pool D L) (batch : List BatchPage)
+    (pages : Pages) (owner place : ℕ) (fault : SpaceFault)
+    → RefusesPlace m store batch pages owner place fault → RefusesTable m store batch pages owner fault
+table_refused m store batch pages owner place (faults.Full limit) refused = refused
+table_refused m store batch pages owner place (faults.Damaged damage) refused = record {
+  pointers = refused.pointers;
+  page = refused.page;
+  leads = refused.leads;
+  some = refused.some;
+  refused = refused.refused;
+}
+table_refused m store batch pages owner place (faults.Pool fault) refused = tt
 
 -- the chain breaks before
 pub place_refused : {D L : Type 0} (m : Meaning D) (store : Pool D L) (batch : List BatchPage)

@@ -4,6 +4,7 @@ pub mod ChangingLaws
 pub mod Growth
 pub mod GrowthLaws
 pub mod HandedLaws
+pub mod LastRoom
 pub mod Listed
 pub mod ListedLaws
 pub mod Places

@@ -1,6 +1,6 @@
 -- The data page at a place of a table, by the pointer page that lists it: those before that one in the
 -- chain are passed, and none behind it is looked at.
-use Rattle.std.specs.Prelude.{◌≡◌, ◌≢◌, ◌<◌, ◌≤◌, ◌+◌, ◌∷◌, ◌++◌, ℕ, List, [], Option, None, Some, length, slice_index}
+use Rattle.std.specs.Prelude.{◌≡◌, ◌≢◌, ◌<◌, ◌≤◌, ◌+◌, ◌^◌, ◌∷◌, ◌++◌, ℕ, List, [], Option, None, Some, length, slice_index}
 use Rattle.mg_base.specs.Disk.{Meaning}
 use Rattle.mg_base.specs.declared.numbers.PageNo.{PageNo}
 use Rattle.mg_image.specs.Form.{Pages}
@@ -10,9 +10,11 @@ use Rattle.mg_pool.specs.declared.batch.BatchPage.{BatchPage}
 use Rattle.mg_pool.specs.declared.pool.Pool.{Pool}
 use Rattle.mg_space.specs.declared.fault.SpaceFault.{SpaceFault}
 use Rattle.mg_space.specs.declared.fault.SpaceFault.TheVariants as faults
-use Rattle.mg_heap.specs.Table.{IsPointerAt, LeadsTo, ListsPage, RefusesPointer}
+use Rattle.mg_heap.specs.Table.{IsPointerAt, IsTable, LeadsTo, ListsPage, RefusesPointer}
 use Rattle.mg_heap.specs.declared.lookup.Look.{Look}
 use Rattle.mg_heap.specs.declared.lookup.Look.TheVariants.{Here, Past}
+use Rattle.mg_heap.specs.declared.lookup.Reached.{Reached}
+use Rattle.mg_heap.specs.declared.lookup.Reached.TheVariants.{At, End}
 
 -- The first pointer pages of a table, each of them as wanted at its place, the data pages that they
 -- list, and the page that they lead to: page 0 where they are all.
@@ -34,6 +36,35 @@ pub record FindsPlace (pages : Pages) (owner place : ℕ) (found : Option PageNo
   pub next : ℕ
   pub front : IsFront pages owner pointers data_pages next
   pub is_entry : IsEntry data_pages next place found
+
+-- A table ends before a place: so many data pages more would lead there.
+pub record EndsBefore (pages : Pages) (owner place left : ℕ) : Type 0 where
+  pub pointers : List ℕ
+  pub data_pages : List ℕ
+  pub front : IsFront pages owner pointers data_pages 0
+  pub passed : left + length data_pages ≡ place
+
+-- the data page at a place has been found, or the table ends before
+abbrev pub Reaches : Pages → ℕ → ℕ → Reached → Type 0
+Reaches pages owner place (At page) = FindsPlace pages owner place (Some page)
+Reaches pages owner place (End left) = EndsBefore pages owner place left
+
+-- a place at which a table has a data page is not the last place of all
+abbrev pub IsFew : ℕ → Reached → Type 0
+IsFew place (At page) = place + 1 < 2 ^ 32
+IsFew place (End left) = Unit {0}
+
+-- the page that was reached, if one was
+abbrev pub IsPageIn : Reached → Option PageNo → Type 0
+IsPageIn (At page) found = found ≡ Some page
+IsPageIn (End left) found = found ≡ None
+
+-- A table has so many data pages.
+pub record HasCount (pages : Pages) (owner count : ℕ) : Type 0 where
+  pub pointers : List ℕ
+  pub data_pages : List ℕ
+  pub table : IsTable pages owner pointers data_pages
+  pub count_is : count ≡ length data_pages
 
 -- Pointer pages of a table that list no page at a place yet lead to one that is not followed.
 pub record BreaksBefore {D L : Type 0} (m : Meaning D) (store : Pool D L) (batch : List BatchPage)

@@ -1,15 +1,15 @@
 //! The data page at a place of a table is found, by the pointer page that lists it.
 
-ghost use Rattle.std.specs.Prelude.{◌≡◌, ◌≤◌, ◌<◌, ◌^◌, ◌+◌, IfOk, IfSome, MatchOption, MatchResult, length, slice_index};
+ghost use Rattle.std.specs.Prelude.{◌≡◌, ◌≤◌, ◌<◌, ◌^◌, ◌+◌, ◌-◌, ℕ, IfOk, IfSome, MatchOption, MatchResult, length, slice_index};
 ghost use Rattle.mg_base.specs.Image.{Image};
 ghost use Rattle.mg_pointer.specs.PointerPage.{IsPointerPage, entries_of};
 ghost use Rattle.mg_pool.specs.Fault.{TellsFault};
 ghost use Rattle.mg_pool.specs.Pool.{IsPool};
 ghost use Rattle.mg_space.specs.Taking.{IsGeometry};
 ghost use Rattle.mg_space.specs.View.{AreWhole, KeepsStore, Tells, pool_answer, viewed};
-ghost use Rattle.mg_heap.specs.Places.{FindsPlace, LooksUp, Passes, RefusesPlace};
+ghost use Rattle.mg_heap.specs.Places.{FindsPlace, HasCount, IsFew, IsPageIn, LooksUp, Passes, Reaches, RefusesPlace};
 ghost use Rattle.mg_heap.specs.Reading.{ReadsData};
-ghost use Rattle.mg_heap.specs.Table.{RefusesPointer};
+ghost use Rattle.mg_heap.specs.Table.{RefusesPointer, RefusesTable};
 
 use crate::table::{linked, pointer_page};
 use mg_base::{Disk, GREATEST_LIMIT, PageNo, get_u16};
@@ -26,7 +26,16 @@ pub(crate) enum Look {
     Past(u32, PageNo),
 }
 
-/// The data page at a place of a table; none exactly where the table has so few.
+/// What the pointer pages of a table say of the data page that so many entries lead to.
+#[derive(Debug, Drop)]
+pub(crate) enum Reached {
+    /// They list the page.
+    At(PageNo),
+    /// They end before: so many entries more would lead there.
+    End(u32),
+}
+
+/// The data page at a place of a table, or how far behind its last data page the place lies.
 ///
 /// The table's pointer pages are read up to the one that lists the page, and no other page. Memory is
 /// taken where this is not the first of them alone.
@@ -36,6 +45,48 @@ pub(crate) enum Look {
 /// `Damaged` at the first pointer page of these that is missing, or not as wanted at its place in the
 /// chain; or where one before the last of them leads past the last page that a database may have, or back
 /// to one of the chain (`Link`). `Pool` with `DiskRead`, `Offline` or `Memory`.
+fn reach_place<D: Disk>(
+    store: &mut Store<D>,
+    batch: &Batch,
+    owner: PageNo,
+    place: u32,
+) -> Result<Reached, SpaceFault>
+    requires pool { IsPool D.meaning store.old }
+    requires geometry { IsGeometry store.old.geometry }
+    requires whole { AreWhole store.old.geometry batch.now.pages }
+    requires owner { owner.0 < GREATEST_LIMIT }
+
+    ensures keeps { KeepsStore D.meaning store.old store.new }
+    ensures fault { TellsFault D.meaning store.old store.new (pool_answer result) }
+    ensures own { ReadsData result }
+    ensures few { IfOk result (IsFew place) }
+    ensures finds { (image : Image) → Tells D.meaning store.old.disk image → MatchResult result
+        (Reaches (viewed store.old image batch.now) owner.0 place)
+        (RefusesPlace D.meaning store.new batch.now.pages (viewed store.old image batch.now) owner.0
+        place) }
+{
+    store.online()?;
+    let mut pointers = Vec::new(store.alloc());
+    let mut rest = place;
+    let mut n = owner;
+    while n.0 != 0 {
+        let look = look_up(store, batch, owner, n, &mut pointers, rest)?;
+        match look {
+            Look::Here(page) => return Ok(Reached::At(page)),
+            Look::Past(left, next) => {
+                rest = left;
+                n = next;
+            },
+        }
+    }
+    Ok(Reached::End(rest))
+}
+
+/// The data page at a place of a table; none exactly where the table has so few.
+///
+/// # Errors
+///
+/// As `reach_place`.
 pub(crate) fn data_page_at<D: Disk>(
     store: &mut Store<D>,
     batch: &Batch,
@@ -56,21 +107,58 @@ pub(crate) fn data_page_at<D: Disk>(
         (RefusesPlace D.meaning store.new batch.now.pages (viewed store.old image batch.now) owner.0
         place) }
 {
-    store.online()?;
-    let mut pointers = Vec::new(store.alloc());
-    let mut rest = place;
-    let mut n = owner;
-    while n.0 != 0 {
-        let look = look_up(store, batch, owner, n, &mut pointers, rest)?;
-        match look {
-            Look::Here(page) => return Ok(Some(page)),
-            Look::Past(left, next) => {
-                rest = left;
-                n = next;
-            },
-        }
+    let reached = reach_place(store, batch, owner, place)?;
+    Ok(page_in(reached))
+}
+
+/// The page that was reached; none where the table ends before.
+fn page_in(reached: Reached) -> Option<PageNo>
+    ensures { IsPageIn reached result }
+{
+    match reached {
+        Reached::At(page) => Some(page),
+        Reached::End(_) => None,
     }
-    Ok(None)
+}
+
+/// How many data pages a table has. Its pointer pages are read, and no other page.
+///
+/// # Errors
+///
+/// `Damaged` at the first pointer page that is not as wanted, as `table_pages`. `Pool` with `DiskRead`,
+/// `Offline` or `Memory`.
+pub(crate) fn data_page_count<D: Disk>(
+    store: &mut Store<D>,
+    batch: &Batch,
+    owner: PageNo,
+) -> Result<u32, SpaceFault>
+    requires pool { IsPool D.meaning store.old }
+    requires geometry { IsGeometry store.old.geometry }
+    requires whole { AreWhole store.old.geometry batch.now.pages }
+    requires owner { owner.0 < GREATEST_LIMIT }
+
+    ensures keeps { KeepsStore D.meaning store.old store.new }
+    ensures fault { TellsFault D.meaning store.old store.new (pool_answer result) }
+    ensures own { ReadsData result }
+    ensures counts { (image : Image) → Tells D.meaning store.old.disk image → MatchResult result
+        (HasCount (viewed store.old image batch.now) owner.0)
+        (RefusesTable D.meaning store.new batch.now.pages (viewed store.old image batch.now)
+        owner.0) }
+{
+    // No table has a data page at this place, so its end is reached.
+    let reached = reach_place(store, batch, owner, u32::MAX)?;
+    Ok(count_before(reached))
+}
+
+/// How many data pages a table has whose end lies before the last place of all.
+fn count_before(reached: Reached) -> u32
+    requires { IsFew (2 ^ 32 - 1) reached }
+    ensures { (left : ℕ) → reached ≡ Reached.End left → result + left ≡ 2 ^ 32 - 1 }
+{
+    match reached {
+        Reached::At(_) => 0,
+        Reached::End(left) => u32::MAX - left,
+    }
 }
 
 /// Looks in a pointer page behind others for the data page that so many entries lead to, and lists the
@@ -78,7 +166,7 @@ pub(crate) fn data_page_at<D: Disk>(
 ///
 /// # Errors
 ///
-/// As `data_page_at`, of this page; its link is tested where the page is passed.
+/// As `reach_place`, of this page; its link is tested where the page is passed.
 fn look_up<D: Disk>(
     store: &mut Store<D>,
     batch: &Batch,

@@ -178,7 +178,7 @@ puts_none m start pool = record {
   faults = refl;
 }
 
-pub puts_more : {D L : Type 0} (m : Meaning D) (start now next : Pool D L) (pages : List BatchPage) (i : ℕ) → IsOnce pages → i < length pages → PutsPages m (content_in (take i pages)) start now → IsPool m next → PutsContent now.dirty next.dirty (get_or pages i no_page).page (get_or pages i no_page).bytes → EntersPage now.graph next.graph (get_or pages i no_page).page → next ≡ record now { dirty = next.dirty; graph = next.graph; clean = next.clean } → PutsPages m (content_in (take (i + 1) pages)) start next
+pub puts_more : {D L : Type 0} (m : Meaning D) (start now next : Pool D L) (pages : List BatchPage) (i : ℕ) → IsOnce pages → i < length pages → PutsPages m (content_in (take i pages)) start now → IsPool m next → PutsContent now.dirty next.dirty (get_or pages i no_page).page (get_or pages i no_page).bytes → EntersPage now.graph next.graph (get_or pages i no_page).page → next ≡ record now { dirty = next.dirty; graph = next.graph; clean = next.clean; rooms = next.rooms } → PutsPages m (content_in (take (i + 1) pages)) start next
 puts_more {D} {L} m start now next pages i once inside before pool put enters same = record {
   pool = pool;
   contents = λ p. elim (cases_eq p (get_or pages i no_page).page) [
@@ -283,7 +283,7 @@ one_content page bytes p apart = rw (ne_eqb page p (λ e. apart (sym e))) refl
 one_here : (page : ℕ) (bytes : List ℕ) → content_in (record { page = page; bytes = bytes } ∷ []) page ≡ Some bytes
 one_here page bytes = rw (eq-eqb page page refl) refl
 
-pub puts_one : {D L : Type 0} (m : Meaning D) (before after : Pool D L) (page : ℕ) (bytes : List ℕ) → IsPool m after → PutsContent before.dirty after.dirty page bytes → EntersPage before.graph after.graph page → after ≡ record before { dirty = after.dirty; graph = after.graph; clean = after.clean } → PutsPages m (content_in (record { page = page; bytes = bytes } ∷ [])) before after
+pub puts_one : {D L : Type 0} (m : Meaning D) (before after : Pool D L) (page : ℕ) (bytes : List ℕ) → IsPool m after → PutsContent before.dirty after.dirty page bytes → EntersPage before.graph after.graph page → after ≡ record before { dirty = after.dirty; graph = after.graph; clean = after.clean; rooms = after.rooms } → PutsPages m (content_in (record { page = page; bytes = bytes } ∷ [])) before after
 puts_one {D} {L} m before after page bytes pool put enters same = record {
   pool = pool;
   contents = λ p. elim (cases_eq p page) [

@@ -150,6 +150,7 @@ pool_quiet m old disk faults pool quiet = record {
   below = pool.below;
   kept_below = pool.kept_below;
   within = quiet.within old.geometry.limit pool.within;
+  noted = λ told image held. pool.noted (sym quiet.content.tells ∙ told) image (sym quiet.content.held ∙ held);
 }
 
 pub leaves_pages : {D L : Type 0} (m : Meaning D) (old : Pool D L) (disk : D) (faults : ℕ) (new : Pool D L) (page : ℕ) → new ≡ record old { disk = disk; faults = faults } → IsPool m old → Quiet m old.disk disk
@@ -209,6 +210,7 @@ leaves_cleaned {D} {L} m old middle new page is keeps left =
         below = pool.below;
         kept_below = λ p bytes there. pool.kept_below p bytes (sym (same p) ∙ there);
         within = pool.within;
+        noted = pool.noted;
       };
       geometry = left.geometry;
       dirty = left.dirty;

@@ -10,6 +10,7 @@ mod OrderLemmas
 mod CauseLemmas
 mod BatchLemmas
 mod PutLemmas
+mod RoomsLemmas
 mod OutsideLemmas
 mod LawfulLemmas
 mod FetchLemmas

@@ -3,7 +3,10 @@ use Rattle.std.proofs.Common.{◌≡◌, ◌≢◌, ◌<◌, ◌≤◌, ℕ, ◌
 use Rattle.std.proofs.lemmas.Bool.{cases_Bool, cases_eq, eq-eqb, ne_eqb}
 use Rattle.mg_careful.specs.Graph.{PageGraph, EntersPage}
 use Rattle.mg_pool.specs.Dirty.{DirtyPages, content_of, is_dirty, PutsContent}
-use Rattle.mg_pool.specs.Pool.{IsTied}
+use Rattle.mg_base.specs.Image.{Image, page_at}
+use Rattle.mg_pool.specs.Pool.{IsTied, shown}
+use Rattle.mg_pool.specs.Rooms.{noted_in}
+use Rattle.mg_slots.specs.Room.{room_of}
 
 none_from : {X : Type 0} (o : Option X) → is_some o ≡ false → o ≡ None
 none_from None out = refl
@@ -57,4 +60,15 @@ module _ (old new : DirtyPages) (page : ℕ) (bytes : List ℕ) (put : PutsConte
   below_put limit below old_below p dirty = elim (cases_eq p page) [
     | inl e ↦ subst (λ (q : ℕ). q < limit) (sym e) below
     | inr apart ↦ old_below p (sym (ap is_some (put.others p apart)) ∙ dirty)
+  ]
+
+  same_shown : (image : Image) (p : ℕ) → p ≢ page → shown new image p ≡ shown old image p
+  same_shown image p apart = rw (put.others p apart, put.size) refl
+
+  -- what is noted of the others is so still
+  pub noted_put : (image : Image) (was now : List ℕ) → noted_in now page ≡ None → ((p : ℕ) → p ≢ page → noted_in now p ≡ noted_in was p)
+      → ((p room : ℕ) → noted_in was p ≡ Some room → room ≡ room_of (shown old image p)) → (p room : ℕ) → noted_in now p ≡ Some room → room ≡ room_of (shown new image p)
+  noted_put image was now here others noted p room there = elim (cases_eq p page) [
+    | inl e ↦ absurd (let f : None ≡ Some room = sym here ∙ (ap (noted_in now) (sym e) ∙ there) in cc)
+    | inr apart ↦ noted p room (sym (others p apart) ∙ there) ∙ sym (ap room_of (same_shown image p apart))
   ]

@@ -10,4 +10,5 @@ pub mod Pool
 pub mod Reading
 pub mod ReadingLaws
 pub mod Refusal
+pub mod Rooms
 pub mod Run

@@ -9,6 +9,8 @@ use Rattle.mg_careful.specs.Graph.{PageGraph, is_entered, is_ordered, entered_co
 use Rattle.mg_careful.specs.CarefulWrite.{Pages, PageSet, Cache, IsClosed, overlay}
 use Rattle.mg_pool.specs.Clean.{kept_in}
 use Rattle.mg_pool.specs.Dirty.{DirtyPages, content_of, is_dirty}
+use Rattle.mg_pool.specs.Rooms.{noted_in}
+use Rattle.mg_slots.specs.Room.{room_of as room_on}
 
 -- the content of a page as the cache shows it over an image: a dirty page's own, else the image's
 abbrev pub shown : DirtyPages → Image → Pages
@@ -89,7 +91,8 @@ LeavesOverlays m old new = m.tells old.disk ≡ true → (image : Image) → m.h
 
 -- What every call finds and leaves: pages of the disk's size, the dirty pages entered in the graph,
 -- and clean pages that are whole, not dirty, on the disk and as there. No page lies past the page
--- limit: none that is dirty or kept, and none that the disk has.
+-- limit: none that is dirty or kept, and none that the disk has. What is noted of the room of a page is
+-- so of its content, wherever that is now.
 pub record IsPool {D L : Type 0} (m : Meaning D) (pool : Pool D L) : Type 0 where
   pub size : m.size pool.disk ≡ Some pool.geometry.size
   pub page_size : pool.dirty.size ≡ pool.geometry.size
@@ -110,6 +113,9 @@ pub record IsPool {D L : Type 0} (m : Meaning D) (pool : Pool D L) : Type 0 wher
   pub kept_below : (page : ℕ) (bytes : List ℕ) → kept_in pool.clean page ≡ Some bytes
       → page < pool.geometry.limit
   pub within : HasAtMost m pool.disk pool.geometry.limit
+  pub noted : m.tells pool.disk ≡ true → (image : Image) → m.held pool.disk ≡ Some image
+      → (page room : ℕ) → noted_in pool.rooms page ≡ Some room
+      → room ≡ room_on (shown pool.dirty image page)
 
 -- the content of a page that the pool can show without the disk
 abbrev pub resident : {D L : Type 0} → Pool D L → ℕ → Option (List ℕ)

@@ -15,15 +15,17 @@
 //!
 //! A content is tested when it comes to the cache, as the page of its number and by the test of the
 //! file's format (`Links::is_lawful`); the answer stays beside it (`Tested`), and `passes` tells it
-//! without a look at the bytes.
+//! without a look at the bytes. How many bytes a new cell may take on a data page is noted where somebody
+//! has looked (`Rooms`), until the page is changed: also of a page that has left the cache.
 //!
 //! Invariant: exactly the dirty pages stand in the graph of orders, orders have no cycle, each
 //! content is one page long, and a clean page is as on the disk. Each dirty and each clean page lies
-//! below the page limit, and the disk has no more pages than that. After a page write or a settle
+//! below the page limit, and the disk has no more pages than that. What is noted of a page's room is so of
+//! its content as the cache shows it. After a page write or a settle
 //! has failed, every call that may answer a fault is refused.
-//! Below: `mg_base` for the disk, `mg_careful` for the graph and the law. Above: whatever reads and
-//! changes pages.
-//! Not here: what is on a page, and which orders its change needs.
+//! Below: `mg_base` for the disk, `mg_careful` for the graph and the law, `mg_slots` for what the room of
+//! a page is. Above: whatever reads and changes pages.
+//! Not here: what is on a page, but for that number, and which orders its change needs.
 #![tactic(auto)]
 
 mod batch;
@@ -34,6 +36,7 @@ mod fault;
 mod law;
 mod pool;
 mod reserved;
+mod rooms;
 mod tested;
 
 pub use batch::{BATCH_PAGES, Batch, BatchPage};

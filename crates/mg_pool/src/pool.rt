@@ -10,15 +10,18 @@ ghost use Rattle.mg_pool.specs.Dirty.{is_dirty as dirty_test, is_marked, IsLeast
 ghost use Rattle.mg_pool.specs.Fault.{TellsFault, OnlyWrites, OnlyRefuses};
 ghost use Rattle.mg_pool.specs.Refusal.{LeavesRefused};
 ghost use Rattle.mg_pool.specs.Reading.{Fetches};
+ghost use Rattle.mg_pool.specs.Rooms.{HasRoom, NotesRoom, noted_in};
 ghost use Rattle.mg_pool.specs.Run.{HasWritten, WritesPage};
+ghost use Rattle.mg_slots.specs.Room.{room_of};
 ghost use Rattle.mg_pool.specs.Pool.{HasAtMost, IsPool, IsOnDisk, resident, KeepsContent, KeepsPages, number_of, shown, LeavesOverlays};
 
 use crate::clean::CleanTable;
 use crate::dirty::DirtyTable;
 use crate::dirty_page::MARKERS;
 use crate::fault::PoolFault;
+use crate::rooms::Rooms;
 use crate::tested::Tested;
-use mg_base::{Bytes, Disk, DiskFault, Geometry, PageNo};
+use mg_base::{Bytes, Disk, DiskFault, GREATEST_LIMIT, Geometry, PageNo};
 use mg_careful::{Graph, Links};
 use std::alloc::Global;
 use std::marker::PhantomData;
@@ -33,6 +36,7 @@ pub struct Pool<D, L: Links> {
     graph: Graph,
     clean: CleanTable<L>,
     counted: bool,
+    rooms: Rooms,
     alloc: Global,
     faults: u64,
     offline: Option<u64>,
@@ -71,7 +75,7 @@ impl<D: Disk, L: Links> Pool<D, L> {
     }
 
     /// A pool over a disk, without a dirty page, that keeps at most `clean` clean pages. It takes
-    /// the room for all dirty pages here.
+    /// the room for all dirty pages here, and two bytes for each page that the file may have.
     ///
     /// The size of `geometry` is the one that the disk's `page_size` gave, and its limit is no less
     /// than the number of pages that the disk's `pages` gave. No page past the limit is ever written.
@@ -109,6 +113,10 @@ impl<D: Disk, L: Links> Pool<D, L> {
             Ok(clean) => clean,
             Err(_) => return Err((disk, PoolFault::Memory)),
         };
+        let rooms = match Rooms::new(alloc, geometry.limit.min(GREATEST_LIMIT) as usize) {
+            Ok(rooms) => rooms,
+            Err(_) => return Err((disk, PoolFault::Memory)),
+        };
         Ok(Pool {
             disk,
             geometry,
@@ -116,6 +124,7 @@ impl<D: Disk, L: Links> Pool<D, L> {
             graph,
             clean,
             counted: false,
+            rooms,
             alloc,
             faults: 0,
             offline: None,
@@ -229,6 +238,29 @@ impl<D: Disk, L: Links> Pool<D, L> {
             Some(tested) => tested.passes(page.0),
             None => false,
         }
+    }
+
+    /// How many bytes a new cell may take on a page: where it was noted, and the page has not been
+    /// changed since. The page need not be resident.
+    pub fn noted_room(&self, page: PageNo) -> Option<u32>
+        requires { IsPool D.meaning self.now }
+        ensures { D.meaning.tells self.now.disk ≡ true → (image : Image)
+            → D.meaning.held self.now.disk ≡ Some image
+            → IfSome result (λ room. room ≡ room_of (shown self.now.dirty image page.0)) }
+    {
+        self.rooms.get(page.0)
+    }
+
+    /// Notes how many bytes a new cell may take on a resident page, until the page is changed. Of a
+    /// page past those that a database may have nothing is noted.
+    pub fn note_room(&mut self, page: PageNo, room: u32)
+        requires pool { IsPool D.meaning self.old }
+        requires room { HasRoom (resident self.old page.0) room }
+        ensures pool { IsPool D.meaning self.new }
+        ensures noted { NotesRoom self.old.rooms self.new.rooms page.0 room }
+        ensures same { self.new ≡ record self.old { rooms = self.new.rooms } }
+    {
+        self.rooms.note(page.0, room);
     }
 
     /// Writes one dirty page: of the goal and the pages that precede it, the one of least number that

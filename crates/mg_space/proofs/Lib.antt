@@ -5,3 +5,4 @@ mod ReadingLemmas
 mod RegionLemmas
 mod StackedLemmas
 mod TakingLemmas
+mod RoomsLemmas

@@ -4,7 +4,7 @@ use Rattle.std.proofs.Common.{refl, sym, ap, subst, ◌∙◌, arith, inl, inr}
 use Rattle.mg_base.specs.Disk.{FailsNoWrite, MayLeave, Meaning, Rose}
 use Rattle.mg_base.specs.Image.{Image}
 use Rattle.mg_base.specs.declared.geometry.Geometry.{Geometry}
-use Rattle.mg_pool.specs.Fault.{Counts, MeetsNoFault, TellsFault}
+use Rattle.mg_pool.specs.Fault.{Counts, MeetsNoFault, TellsFault, fault_counts}
 use Rattle.mg_pool.specs.Pool.{IsPool, KeepsContent}
 use Rattle.mg_pool.specs.declared.fault.PoolFault.{PoolFault}
 use Rattle.mg_pool.specs.declared.fault.PoolFault.TheVariants.{DiskRead, DiskWrite, Offline, Absent, Memory}
@@ -76,6 +76,22 @@ keeps_itself m store pool = record {
   offline = refl;
   disk = same_content m store.disk;
 }
+
+-- a call has noted the room of a page, and nothing else: it has only read
+pub keeps_noted : {D L : Type 0} (m : Meaning D) (old new : Pool D L) → IsPool m new
+    → new ≡ record old { rooms = new.rooms } → KeepsStore m old new
+keeps_noted {D} {L} m old new pool same = record {
+  pool = pool;
+  geometry = ap (λ (p : Pool D L). p.geometry) same;
+  dirty = ap (λ (p : Pool D L). p.dirty) same;
+  graph = ap (λ (p : Pool D L). p.graph) same;
+  offline = ap (λ (p : Pool D L). p.offline) same;
+  disk = subst (λ (p : Pool D L). KeepsContent m old.disk p.disk) (sym same) (same_content m old.disk);
+}
+
+pub faults_noted : {D L : Type 0} (m : Meaning D) (old new : Pool D L)
+    → new ≡ record old { rooms = new.rooms } → MeetsNoFault m old new
+faults_noted {D} {L} m old new same = ap (λ (p : Pool D L). fault_counts m p) same
 
 -- two calls that have only read are one
 pub keeps_on : {D L : Type 0} (m : Meaning D) → CountsNow m → (a b c : Pool D L)

@@ -8,7 +8,8 @@
 //! it, and where the batch has none, as the cache shows it (`viewed`). It leaves the cache as it
 //! was but for what it read (`KeepsStore`): its contract says what it does to the pages as viewed.
 //! A page is read in two steps: `hold` makes it readable, and `lent` lends its bytes, so who reads
-//! copies what he keeps and nothing else. `passes` tells that the cache has tested a page already.
+//! copies what he keeps and nothing else. `passes` tells that the cache has tested a page already, and
+//! `known_room` how much room a data page has, where the cache has noted it.
 //! After a fault the batch may have a part of the changes; the caller drops it.
 //!
 //! Invariant: none of its own; it keeps that of the cache (`IsPool`), and each content of a batch
@@ -25,6 +26,7 @@ mod fields;
 mod lending;
 mod links;
 mod reading;
+mod rooms;
 mod stacked;
 mod taking;
 
@@ -35,5 +37,6 @@ pub use links::{
     BIT, DATA, FireLinks, HEADER, NEXT, NODE, POINTER, Store, TRANSACTIONS, TREE, VERSION,
 };
 pub use reading::{Found, find_page, page_of};
+pub use rooms::{known_room, note_room};
 pub use stacked::check_page;
 pub use taking::{inventory_page_of, region_len, take_page};

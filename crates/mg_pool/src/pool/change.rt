@@ -127,9 +127,11 @@ impl<D: Disk, L: Links> Pool<D, L> {
           dirty = self.new.dirty;
           graph = self.new.graph;
           clean = self.new.clean;
+          rooms = self.new.rooms;
         } }
     {
         self.clean.take_out(page);
+        self.rooms.forget(page);
         self.dirty.put(page, bytes);
         self.graph.enter(page);
     }

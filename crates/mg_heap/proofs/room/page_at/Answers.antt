@@ -1,10 +1,12 @@
-use Rattle.std.proofs.Common.{get_or, refl, List, subst, sym, ℕ}
+use Rattle.std.proofs.Common.{◌∙◌, get_or, refl, List, subst, sym, ℕ}
 use Rattle.mg_space.specs.HandedLaws.{fault_same, no_answer}
 use Rattle.mg_space.specs.View.{viewed}
+use Rattle.mg_space.specs.ViewLaws.{keeps_itself, keeps_on}
 use Rattle.mg_heap.specs.HandedLaws.{reads_same}
 use Rattle.mg_heap.specs.Walk.{RefusesWalkOf}
 use Rattle.mg_heap.proofs.TableLemmas.{handed_on}
 use Rattle.mg_heap.proofs.WalkLemmas.{page_broken}
+use Rattle.mg_heap.proofs.LastRoomLemmas.{told_true}
 use Rattle.mg_slots.specs.DataPage.{IsDataPage}
 use Rattle.mg_heap.proofs.room.page_at.Goals as goal
 
@@ -42,3 +44,28 @@ returns-clause-fault g c = c.in_ok-bytes.ensures.fault
 
 pub room-requires : goal.room-requires
 room-requires g c = subst IsDataPage (sym c.as_slice.ensures) c.in_ok-bytes.ensures.lawful
+
+pub returns-then-is_known_full-clause-keeps : goal.returns-then-is_known_full-clause-keeps
+returns-then-is_known_full-clause-keeps g c = keeps_itself g.D.Disk.meaning c.args.store.now c.requires.pool
+
+pub returns-then-is_known_full-clause-fault : goal.returns-then-is_known_full-clause-fault
+returns-then-is_known_full-clause-fault g c = (c.requires.online, c.requires.online, refl)
+
+pub returns-then-is_known_full-clause-looks : goal.returns-then-is_known_full-clause-looks
+returns-then-is_known_full-clause-looks g c = λ image tells. told_true c.is_known_full.result _
+    c.if-is_known_full.true (c.is_known_full.ensures image tells)
+
+pub note_room-requires : goal.note_room-requires
+note_room-requires g c = c.in_ok-bytes.ensures.keeps.pool
+
+pub returns-then-room-need-clause-keeps : goal.returns-then-room-need-clause-keeps
+returns-then-room-need-clause-keeps g c = keeps_on g.D.Disk.meaning g.met.D.Disk.counts_now
+    c.args.store.now c.table_data_page.new.store c.note_room.new.store c.in_ok-bytes.ensures.keeps
+    c.note_room.ensures.keeps
+
+pub returns-then-room-need-clause-fault : goal.returns-then-room-need-clause-fault
+returns-then-room-need-clause-fault g c = (
+  c.requires.online,
+  c.note_room.ensures.keeps.offline ∙ c.in_ok-bytes.ensures.fault.1,
+  c.note_room.ensures.faults ∙ c.in_ok-bytes.ensures.fault.2,
+)

@@ -193,6 +193,7 @@ returns-in-Ok-put-clause-pool g c =
       below = pool.below;
       kept_below = put_clean (kept_in c.args.self.now.clean) (kept_in c.put.new.self) c.args.page.0 c.new-2.result here others (λ q b. q < c.args.self.now.geometry.limit) page_below pool.kept_below;
       within = within_calm g.D.Disk.meaning c.pages.new.self c.read_into.new.disk _ read_calm c.args.self.now.geometry.limit counted_within;
+      noted = λ told image held. pool.noted (sym asked_calm.keeps.tells ∙ (sym read_calm.keeps.tells ∙ told)) image (sym asked_calm.held ∙ (sym read_calm.held ∙ held));
     }
 
 pub returns-in-Ok-put-clause-geometry : goal.returns-in-Ok-put-clause-geometry

@@ -1,6 +1,6 @@
 use Rattle.std.proofs.Common.{◌∙◌}
 use Rattle.mg_pool.specs.Clean.{kept_in}
-use Rattle.mg_pool.proofs.PutLemmas.{tied_put, few_put, apart_put, below_put, without_get}
+use Rattle.mg_pool.proofs.PutLemmas.{tied_put, few_put, apart_put, below_put, noted_put, without_get}
 use Rattle.mg_pool.proofs.pool.Pool.put_page.Goals as goal
 
 pub returns-clause-pool : goal.returns-clause-pool
@@ -24,4 +24,6 @@ returns-clause-pool g c =
       below = below_put c.args.self.now.dirty c.put.new.self c.args.page c.args.bytes.now c.put.ensures c.args.self.now.geometry.limit c.requires.below pool.below;
       kept_below = λ p bytes there. pool.kept_below p bytes (was p bytes there).1;
       within = pool.within;
+      noted = λ told image held p room there.
+          noted_put c.args.self.now.dirty c.put.new.self c.args.page c.args.bytes.now c.put.ensures image c.args.self.now.rooms c.forget.new.self c.forget.ensures.here c.forget.ensures.others (pool.noted told image held) p room there;
     }

@@ -28,4 +28,5 @@ returns-clause-pool g c =
       below = λ p dirty. absurd (both_ways _ (no_dirty p) dirty);
       kept_below = λ p bytes there. let e : None ≡ Some bytes = sym (no_clean p) ∙ there in absurd cc;
       within = c.requires.within;
+      noted = λ told image held p room there. let e : None ≡ Some room = sym (c.in-Ok-new-3.ensures.none p) ∙ there in cc;
     }

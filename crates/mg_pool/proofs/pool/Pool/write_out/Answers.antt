@@ -1,9 +1,10 @@
 use Rattle.std.proofs.Common.{◌≡◌, ◌≢◌, ◌<◌, ◌∙◌, arith, sym, ap, inl, inr, Some, None, Option, List, length, ℕ, true, [], refl}
 use Rattle.mg_pool.specs.Clean.{kept_in}
-use Rattle.mg_base.specs.Image.{page_at}
-use Rattle.mg_pool.specs.Pool.{IsOnDisk}
+use Rattle.mg_base.specs.Image.{Image, page_at}
+use Rattle.mg_pool.specs.Pool.{IsOnDisk, shown}
+use Rattle.mg_slots.specs.Room.{room_of}
 use Rattle.mg_pool.specs.Dirty.{content_of, is_dirty}
-use Rattle.mg_pool.proofs.PoolLemmas.{counted_after, kept_none, kept_then, on_disk_written, stored_now, tied_after, writes_out, overlay_of_page, leaves_after, size_stays, held_after, still_dirty, clean_written, clean_failed, failed_leaves, on_disk_after, shown_failed, within_after, within_failed}
+use Rattle.mg_pool.proofs.PoolLemmas.{counted_after, kept_none, kept_then, on_disk_written, stored_now, shown_after, tied_after, writes_out, overlay_of_page, leaves_after, size_stays, held_after, still_dirty, clean_written, clean_failed, failed_leaves, on_disk_after, shown_failed, within_after, within_failed}
 use Rattle.mg_pool.proofs.RunLemmas.{time_of_call}
 use Rattle.mg_pool.proofs.pool.Pool.write_out.Goals as goal
 
@@ -38,6 +39,10 @@ returns-in-Err g c =
         below = pool.below;
         kept_below = pool.kept_below;
         within = within_failed m c.args.self.now.disk c.write.new.self c.args.page c.in-Some.bytes.now _ writes c.args.self.now.geometry.limit (pool.below c.args.page c.requires.dirty) pool.within;
+        noted = λ told image held page room there.
+            let told_old = sym writes.keeps.tells ∙ told in
+            let before = g.met.D.Disk.holds c.args.self.now.disk told_old in
+            pool.noted told_old before.0 before.1 page room there ∙ sym (ap room_of (shown_failed m c.args.self.now.disk c.write.new.self c.args.self.now.dirty c.args.page c.in-Some.bytes.now _ content c.in-Some.ensures.whole writes before.0 image before.1 held page));
       };
       kept = record {
         geometry = refl;
@@ -64,6 +69,10 @@ returns-in-Ok g c =
     let kept = kept_then (c.args.self.now.counted ≡ true) was now c.args.page c.in-Some.bytes.now c.copy_of-copy.result (content_of c.args.self.now.dirty c.args.page) c.keep.ensures content c.copy_of-copy.ensures.content c.copy_of-copy.ensures.counted in
     let not_this : (p : ℕ) (b : List ℕ) → was p ≡ Some b → p ≢ c.args.page = λ p b there e. let gone = pool.apart p (ap (is_dirty c.args.self.now.dirty) e ∙ c.requires.dirty) in let f : Some b ≡ None = sym there ∙ gone in cc in
     let whole : length c.in-Some.bytes.now ≡ c.args.self.now.geometry.size = c.in-Some.ensures.whole ∙ pool.page_size in
+    let shown_same : (old new : Image) → m.held c.args.self.now.disk ≡ Some old → m.held c.write.new.self ≡ Some new → (p : ℕ) → shown c.take_out.new.self new p ≡ shown c.args.self.now.dirty old p =
+    λ old new held_old held_new p.
+    let e = held_after m c.args.self.now.disk c.write.new.self c.args.page c.in-Some.bytes.now _ writes old new held_old held_new in
+    rw (e, c.in-Some.ensures.whole) (shown_after c.args.self.now.dirty c.take_out.new.self c.args.self.now.graph c.clear.new.self old c.args.page c.in-Some.bytes.now content c.in-Some.ensures.whole c.take_out.ensures.taken c.clear.ensures c.requires.ready p) in
     record {
       geometry = refl;
       offline = refl;
@@ -98,6 +107,10 @@ returns-in-Ok g c =
         below = λ page dirty. pool.below page (still_dirty c.args.self.now.dirty c.take_out.new.self c.args.self.now.graph c.clear.new.self [] c.args.page c.in-Some.bytes.now content c.in-Some.ensures.whole c.take_out.ensures.taken c.clear.ensures c.requires.ready page dirty).1;
         kept_below = kept (λ p b. p < c.args.self.now.geometry.limit) (λ told. pool.below c.args.page c.requires.dirty) pool.kept_below;
         within = within_after m c.args.self.now.disk c.write.new.self c.args.page c.in-Some.bytes.now _ writes c.args.self.now.geometry.limit (pool.below c.args.page c.requires.dirty) pool.within;
+        noted = λ told image held page room there.
+            let told_old = sym writes.keeps.tells ∙ told in
+            let before = g.met.D.Disk.holds c.args.self.now.disk told_old in
+            pool.noted told_old before.0 before.1 page room there ∙ sym (ap room_of (shown_same before.0 image before.1 held page));
       };
       time = time_of_call m c.args.self.now.disk c.write.new.self _ writes.keeps c.in-Ok.ensures.failed_writes.never_falls;
       crash = λ told image held.

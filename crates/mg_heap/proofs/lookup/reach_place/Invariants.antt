@@ -5,7 +5,7 @@ use Rattle.mg_image.specs.Tables.{Has, IsOnce, entries_in}
 use Rattle.mg_pool.specs.Fault.{MeetsNoFault}
 use Rattle.mg_space.specs.View.{KeepsStore, Tells, viewed}
 use Rattle.mg_heap.specs.Table.{LeadsTo}
-use Rattle.mg_heap.proofs.lookup.data_page_at.Given as goal
+use Rattle.mg_heap.proofs.lookup.reach_place.Given as goal
 
 abbrev pub invariant-loop-n : goal.invariant-loop-n
 invariant-loop-n g l = record {
