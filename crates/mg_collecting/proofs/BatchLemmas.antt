@@ -12,7 +12,7 @@ use Rattle.mg_pool.specs.Batch.{Changed}
 use Rattle.mg_pool.specs.Fault.{StaysOnline, TellsFault}
 use Rattle.mg_pool.specs.declared.batch.BatchPage.{BatchPage}
 use Rattle.mg_pool.specs.declared.pool.Pool.{Pool}
-use Rattle.mg_row_writes.specs.Changing.{ChangesBatch, FailsBatch, not_changed, not_filled, nothing_yet}
+use Rattle.mg_batches.specs.Batches.{ChangesBatch, FailsBatch, not_changed, not_filled, nothing_yet}
 use Rattle.mg_space.specs.View.{KeepsStore, ReadsAlone, Tells, pool_answer}
 use Rattle.mg_space.specs.declared.fault.SpaceFault.{SpaceFault}
 use Rattle.mg_space.specs.declared.fault.SpaceFault.TheVariants as faults

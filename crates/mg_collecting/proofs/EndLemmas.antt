@@ -18,7 +18,8 @@ use Rattle.mg_pool.specs.Fault.{StaysOnline}
 use Rattle.mg_pool.specs.Pool.{shown}
 use Rattle.mg_pool.specs.declared.batch.BatchPage.{BatchPage}
 use Rattle.mg_pool.specs.declared.pool.Pool.{Pool}
-use Rattle.mg_row_writes.specs.Changing.{TakesNewestOut, nothing_yet}
+use Rattle.mg_batches.specs.Batches.{nothing_yet}
+use Rattle.mg_row_writes.specs.Changing.{TakesNewestOut}
 use Rattle.mg_seek.specs.Speaking.{is_erased_for_all}
 use Rattle.mg_snap.specs.Live.{State}
 use Rattle.mg_space.specs.View.{KeepsStore, Tells, viewed}

@@ -16,7 +16,7 @@ use Rattle.mg_model.specs.Answers.{is_committed}
 use Rattle.mg_pool.specs.Fault.{StaysOnline}
 use Rattle.mg_pool.specs.Pool.{IsPool, shown}
 use Rattle.mg_pool.specs.declared.pool.Pool.{Pool}
-use Rattle.mg_row_writes.specs.Changing.{ChangesOwn, FailsOwn, nothing_yet}
+use Rattle.mg_batches.specs.Batches.{ChangesOwn, FailsOwn, nothing_yet}
 use Rattle.mg_snap.specs.Live.{State, needed}
 use Rattle.mg_space.specs.View.{KeepsStore, Tells}
 use Rattle.mg_space.specs.declared.fault.SpaceFault.{SpaceFault}

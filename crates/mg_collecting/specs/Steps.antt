@@ -18,7 +18,8 @@ use Rattle.mg_pool.specs.Batch.{Changed}
 use Rattle.mg_pool.specs.Fault.{StaysOnline, TellsFault}
 use Rattle.mg_pool.specs.Pool.{shown}
 use Rattle.mg_pool.specs.declared.pool.Pool.{Pool}
-use Rattle.mg_row_writes.specs.Changing.{ChangesOwn, FailsOwn, FailsTakingOut, nothing_yet}
+use Rattle.mg_batches.specs.Batches.{ChangesOwn, FailsOwn, nothing_yet}
+use Rattle.mg_row_writes.specs.Changing.{FailsTakingOut}
 use Rattle.mg_seek.specs.Speaking.{is_erased_for_all}
 use Rattle.mg_snap.specs.Live.{State, needed}
 use Rattle.mg_space.specs.View.{KeepsStore, Tells, pool_answer}

@@ -19,9 +19,9 @@ ghost use Rattle.mg_collecting.specs.Steps.{DoesPart, FailsPart};
 
 use crate::reading::{is_committed, newest, version};
 use mg_base::{Disk, PageNo, RecId, TxNo};
+use mg_batches::change_batch;
 use mg_chain::{States, cells_are_changed, drop_behind};
 use mg_pool::Batch;
-use mg_row_writes::change_batch;
 use mg_snap::Live;
 use mg_space::{SpaceFault, Store};
 use mg_version::Link;

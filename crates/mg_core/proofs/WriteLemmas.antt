@@ -118,7 +118,7 @@ unmarked cause old new first same = record {
 pub put_noted : {D : Type 0} (m : Meaning D) (old read mid new : Core D) (t : TxNo) (table : Table) (write : Write)
     (key : Value) (rec : Option RecId) (before : Before) (v : Version) (at : RecId)
     → HasBefore m old read t table write rec before v
-    → LaysKeptIn m read mid t.0 table.pointer.0 key before v at → NotesRow mid new table.pointer.0 key at
+    → LaysKeptIn m read mid t.0 table write key before v at → NotesRow mid new table.pointer.0 key at
     → PutsRow m old new t table write key rec
 put_noted {D} m old read mid new t table write key rec before v at has lays notes = record {
   read = read;
@@ -142,8 +142,8 @@ put_noted {D} m old read mid new t table write key rec before v at has lays note
     back = ap as_read notes.same ∙ (ap as_read lays.laid.same ∙ sym lays.laid.same)
 
     IsLaid : Core D → Type 0
-    IsLaid c = (laid : LaysKept m read c t.0 table.pointer.0 key before v)
-        × (at ≡ laid_in m read.store c.store table.pointer.0 before.way v laid.lays)
+    IsLaid c = (laid : LaysKept m read c t.0 table write key before v)
+        × (at ≡ laid_in m read.store c.store table before.way write v laid.lays)
 
     both : IsLaid (as_read new)
     both = subst IsLaid (sym back) (lays.laid, lays.at)

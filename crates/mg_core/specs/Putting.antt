@@ -13,9 +13,9 @@ use Rattle.mg_pool.specs.Pool.{shown}
 use Rattle.mg_pool.specs.declared.pool.Pool.{Pool}
 use Rattle.mg_records.specs.declared.write.Write.{Write}
 use Rattle.mg_row_writes.specs.Befores.{IsBefore}
-use Rattle.mg_row_writes.specs.Changing.{not_lawful}
+use Rattle.mg_batches.specs.Batches.{not_lawful}
 use Rattle.mg_row_writes.specs.Finding.{RefusesSeen}
-use Rattle.mg_row_writes.specs.Laying.{FailsLay, Lays, laid_in}
+use Rattle.mg_row_writes.specs.Laying.{FailsLay, KeysMayBeLaid, Lays, laid_in}
 use Rattle.mg_row_writes.specs.Storing.{IsStored, MayBeStored}
 use Rattle.mg_row_writes.specs.declared.before.Before.{Before}
 use Rattle.mg_seek.specs.Versions.{wants}
@@ -47,47 +47,55 @@ pub record CountsOne {D : Type 0} (old new : Core D) (fault : SpaceFault) (refus
 abbrev pub works_kept : ℕ → ℕ → Value → Was → List Working → List Working
 works_kept t owner key was works = with_work t unasked (with_work t (with_change owner key was) works)
 
--- A version is laid on its way, and what the transaction's own change of the key was is kept.
-pub record LaysKept {D : Type 0} (m : Meaning D) (old new : Core D) (t owner : ℕ) (key : Value) (before : Before)
-    (v : Version) : Type 0 where
-  pub may : MayBeStored old.store.geometry.size owner v
-  pub lays : Lays m old.store new.store owner before.way v
+-- The version of a write is laid on its way, after the entries of its row, and what the transaction's own change of the
+-- key was is kept.
+pub record LaysKept {D : Type 0} (m : Meaning D) (old new : Core D) (t : ℕ) (table : Table) (write : Write)
+    (key : Value) (before : Before) (v : Version) : Type 0 where
+  pub may : MayBeStored old.store.geometry.size table.pointer.0 v
+  pub short : KeysMayBeLaid old.store.geometry.size table write
+  pub lays : Lays m old.store new.store table before.way write v
   pub same : new ≡ record old {
     store = new.store;
-    works = works_kept t owner key before.was old.works;
+    works = works_kept t table.pointer.0 key before.was old.works;
   }
 
 -- So it is, in this record.
-pub record LaysKeptIn {D : Type 0} (m : Meaning D) (old new : Core D) (t owner : ℕ) (key : Value) (before : Before)
-    (v : Version) (rec : RecId) : Type 0 where
-  pub laid : LaysKept m old new t owner key before v
-  pub at : rec ≡ laid_in m old.store new.store owner before.way v laid.lays
+pub record LaysKeptIn {D : Type 0} (m : Meaning D) (old new : Core D) (t : ℕ) (table : Table) (write : Write)
+    (key : Value) (before : Before) (v : Version) (rec : RecId) : Type 0 where
+  pub laid : LaysKept m old new t table write key before v
+  pub at : rec ≡ laid_in m old.store new.store table before.way write v laid.lays
 
 -- It is not: what was kept is taken back, and the fault is told and counted.
-pub record FailsLaid {D : Type 0} (m : Meaning D) (old new : Core D) (t owner : ℕ) (key : Value) (before : Before)
-    (v : Version) (refusal : Refusal) : Type 0 where
-  pub may : MayBeStored old.store.geometry.size owner v
+pub record FailsLaid {D : Type 0} (m : Meaning D) (old new : Core D) (t : ℕ) (table : Table) (write : Write)
+    (key : Value) (before : Before) (v : Version) (refusal : Refusal) : Type 0 where
+  pub may : MayBeStored old.store.geometry.size table.pointer.0 v
+  pub short : KeysMayBeLaid old.store.geometry.size table write
   pub fault : SpaceFault
-  pub fails : FailsLay m old.store new.store owner before.way v fault
+  pub fails : FailsLay m old.store new.store table before.way write v fault
   pub is : IsRefusal fault refusal
   pub names : NamesLimit new.store.geometry.limit refusal
   pub counts : CountsFault fault old.damage new.damage old.shortages new.shortages
   pub same : new ≡ record old {
     store = new.store;
-    works = with_work t without_change (works_kept t owner key before.was old.works);
+    works = with_work t without_change (works_kept t table.pointer.0 key before.was old.works);
     damage = new.damage;
     shortages = new.shortages;
   }
 
--- why a version is not laid: a page has no room for it, which a lawful row never has, memory is wanting to keep what
--- was, or the pages are refused
-pub data FailsKept {D : Type 0} (m : Meaning D) (old new : Core D) (t owner : ℕ) (key : Value) (before : Before)
-    (v : Version) (refusal : Refusal) : Type 0 where
-  too_long : (MayBeStored old.store.geometry.size owner v → ⊥)
-      → CountsOne old new (faults.Damaged not_lawful) refusal → FailsKept m old new t owner key before v refusal
-  not_kept : MayBeStored old.store.geometry.size owner v → IsTold old new Memory refusal
-      → FailsKept m old new t owner key before v refusal
-  not_laid : FailsLaid m old new t owner key before v refusal → FailsKept m old new t owner key before v refusal
+-- why a version is not laid: a page has no room for it, or for a key of its row in an index, which a lawful row never
+-- has, memory is wanting to see that or to keep what was, or the pages are refused
+pub data FailsKept {D : Type 0} (m : Meaning D) (old new : Core D) (t : ℕ) (table : Table) (write : Write)
+    (key : Value) (before : Before) (v : Version) (refusal : Refusal) : Type 0 where
+  too_long : (MayBeStored old.store.geometry.size table.pointer.0 v → ⊥)
+      → CountsOne old new (faults.Damaged not_lawful) refusal
+      → FailsKept m old new t table write key before v refusal
+  key_too_long : (KeysMayBeLaid old.store.geometry.size table write → ⊥)
+      → CountsOne old new (faults.Damaged not_lawful) refusal
+      → FailsKept m old new t table write key before v refusal
+  not_kept : MayBeStored old.store.geometry.size table.pointer.0 v → IsTold old new Memory refusal
+      → FailsKept m old new t table write key before v refusal
+  not_laid : FailsLaid m old new t table write key before v refusal
+      → FailsKept m old new t table write key before v refusal
 
 -- ---- the row is put
 
@@ -122,9 +130,9 @@ pub record PutsRow {D : Type 0} (m : Meaning D) (old new : Core D) (t : TxNo) (t
   pub before : Before
   pub version : Version
   pub has : HasBefore m old read t table write rec before version
-  pub laid : LaysKept m read (record new { directories = read.directories }) t.0 table.pointer.0 key before version
+  pub laid : LaysKept m read (record new { directories = read.directories }) t.0 table write key before version
   pub noted : NotesOrDrops (by_table read.directories.dirs) (by_table new.directories.dirs) table.pointer.0 (key_bytes key)
-      (laid_in m read.store new.store table.pointer.0 before.way version laid.lays)
+      (laid_in m read.store new.store table before.way write version laid.lays)
   pub marks : MarksFor (read.directories.most ≤ notes_in read.directories.dirs) read.directories new.directories
       table.pointer.0
 
@@ -135,5 +143,5 @@ pub data FailsPut {D : Type 0} (m : Meaning D) (old new : Core D) (t : TxNo) (ta
   no_before : FailsReading m old new (WhyNotBefore m old table rec) refusal
       → FailsPut m old new t table write key rec refusal
   no_lay : (read : Core D) (before : Before) (v : Version) → HasBefore m old read t table write rec before v
-      → FailsKept m read new t.0 table.pointer.0 key before v refusal
+      → FailsKept m read new t.0 table write key before v refusal
       → FailsPut m old new t table write key rec refusal

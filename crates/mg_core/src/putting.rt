@@ -1,6 +1,6 @@
 //! A row is put on the pages, and what it was before is kept.
 
-ghost use Rattle.std.specs.Prelude.{◌≡◌, ◌<◌, ◌≤◌, None, MatchResult, false};
+ghost use Rattle.std.specs.Prelude.{◌≡◌, ◌≤◌, None, MatchResult, false};
 ghost use Rattle.mg_records.specs.Writing.{FitsShape};
 ghost use Rattle.mg_works.specs.Works.{MayBeGiven};
 ghost use Rattle.mg_core.specs.Cores.{IsCore};
@@ -8,10 +8,11 @@ ghost use Rattle.mg_core.specs.Putting.{FailsKept, FailsPut, LaysKept, LaysKeptI
 
 use crate::parts::Core;
 use crate::states::StatesOf;
-use mg_base::{Disk, GREATEST_LIMIT, PageNo, RecId, TxNo};
+use mg_base::{Disk, PageNo, RecId, TxNo};
+use mg_batches::unlawful;
 use mg_model::{Refusal, Table};
 use mg_records::Write;
-use mg_row_writes::{Before, before_at, lay, may_be_stored, stored_version, unlawful};
+use mg_row_writes::{Before, before_at, keys_may_be_laid, lay, may_be_stored, stored_version};
 use mg_sortkey::key_bytes;
 use mg_space::SpaceFault;
 use mg_value::Key;
@@ -46,7 +47,7 @@ impl<D: Disk> Core<D> {
         let states = StatesOf::new(&self.list);
         match before_at(&mut self.store, table, rec, &states, &self.live, t) {
             Ok(before) => {
-                let at = self.lay_kept(t, table.pointer, key, before, &version)?;
+                let at = self.lay_kept(t, table, write, key, before, &version)?;
                 self.note_row(table.pointer, key, at);
                 Ok(())
             }
@@ -68,8 +69,8 @@ impl<D: Disk> Core<D> {
         }
     }
 
-    /// Keeps what a transaction's own change of a key was, takes back the asking for its commit, and lays a version;
-    /// the record is told in which that was.
+    /// Keeps what a transaction's own change of a key was, takes back the asking for its commit, and lays the entries
+    /// of a write's row and its version; the record is told in which that was.
     /// What was kept is taken back where the version is not laid.
     ///
     /// # Errors
@@ -78,32 +79,41 @@ impl<D: Disk> Core<D> {
     pub fn lay_kept(
         &mut self,
         t: TxNo,
-        owner: PageNo,
+        table: &Table,
+        write: &Write,
         key: &Key,
         before: Before,
         version: &Version,
     ) -> Result<RecId, Refusal>
         requires core { IsCore D.meaning self.old }
-        requires owner { owner.0 < GREATEST_LIMIT }
+        requires given { MayBeGiven table.now }
         requires apart { version.now.primary ≡ false }
         requires stored { 1 ≤ version.now.format }
         ensures core { IsCore D.meaning self.new }
         ensures lays { MatchResult result
-            (LaysKeptIn D.meaning self.old self.new t.0 owner.0 key.now before version.now)
-            (FailsKept D.meaning self.old self.new t.0 owner.0 key.now before version.now) }
+            (LaysKeptIn D.meaning self.old self.new t.0 table.now write.now key.now before version.now)
+            (FailsKept D.meaning self.old self.new t.0 table.now write.now key.now before version.now) }
     {
-        if !may_be_stored(self.store.geometry().size, owner, version) {
+        let size = self.store.geometry().size;
+        if !may_be_stored(size, table.pointer, version) {
+            return Err(self.refuse(SpaceFault::Damaged(unlawful())));
+        }
+        let short = match keys_may_be_laid(self.store.alloc(), size, table, write) {
+            Ok(short) => short,
+            Err(_) => return Err(Refusal::Memory),
+        };
+        if !short {
             return Err(self.refuse(SpaceFault::Damaged(unlawful())));
         }
         let Before { way, was } = before;
         // First kept: want of memory then leaves the pages alone.
-        match self.works.keep(t, owner.0, key, was) {
+        match self.works.keep(t, table.pointer.0, key, was) {
             Ok(()) => {}
             Err(_) => return Err(Refusal::Memory),
         }
         // Its new pages have no mark of a commit that was asked for.
         self.works.unask(t);
-        match lay(&mut self.store, owner, way, version) {
+        match lay(&mut self.store, table, way, write, version) {
             Ok(rec) => Ok(rec),
             Err(fault) => {
                 self.works.retract(t);

@@ -16,9 +16,10 @@ ghost use Rattle.mg_core.specs.Writing.{Allows, FailsKey, FailsRow, FailsWrite, 
 use crate::parts::Core;
 use crate::states::StatesOf;
 use mg_base::{Disk, RecId, TxNo};
+use mg_batches::unlawful;
 use mg_model::{Refusal, Table};
 use mg_records::Write;
-use mg_row_writes::{RowAt, row_at, unlawful, written_key};
+use mg_row_writes::{RowAt, row_at, written_key};
 use mg_sortkey::key_bytes;
 use mg_space::SpaceFault;
 use mg_value::{Key, Value};

@@ -11,7 +11,7 @@ use Rattle.mg_image.specs.Inventory.{header_of}
 use Rattle.mg_lasting.specs.PoolLaws.{HoldsOne}
 use Rattle.mg_model.specs.declared.table.Table.{Table}
 use Rattle.mg_pool.specs.Pool.{shown}
-use Rattle.mg_row_writes.specs.Changing.{ChangesOwn, nothing_yet}
+use Rattle.mg_batches.specs.Batches.{ChangesOwn, nothing_yet}
 use Rattle.mg_snap.specs.Live.{State as Bases}
 use Rattle.mg_table_unmaking.specs.Rows.{TakesRow}
 use Rattle.mg_txlist.specs.TxList.{said}

@@ -105,7 +105,8 @@ use Rattle.mg_image.specs.ReadingLaws.{RowsAreOne}
 use Rattle.mg_lasting.specs.PoolLaws.{HoldsOne}
 use Rattle.mg_model.specs.Laws.{OpeningsBegin}
 use Rattle.mg_pool.specs.Batch.{Changed}
-use Rattle.mg_row_writes.specs.Changing.{ChangesOwn, PushesOver, ReplacesNewest, nothing_yet, MakesFirst, TakesNewestOut, TakesPlace}
+use Rattle.mg_batches.specs.Batches.{ChangesOwn, nothing_yet}
+use Rattle.mg_row_writes.specs.Changing.{PushesOver, ReplacesNewest, MakesFirst, TakesNewestOut, TakesPlace}
 use Rattle.mg_row_writes.specs.declared.before.Way.TheVariants as ways
 use Rattle.mg_seek.specs.Views.{IsObstacle}
 use Rattle.mg_space.specs.Taking.{IsGeometry}

@@ -9,7 +9,7 @@ use Rattle.mg_model.specs.declared.table.Table.{Table}
 use Rattle.mg_pool.specs.declared.pool.Pool.{Pool}
 use Rattle.mg_records.specs.TakingBack.{is_given_up}
 use Rattle.mg_records.specs.declared.write.Write.{Write}
-use Rattle.mg_row_writes.specs.Changing.{not_lawful}
+use Rattle.mg_batches.specs.Batches.{not_lawful}
 use Rattle.mg_snap.specs.Live.{State}
 use Rattle.mg_space.specs.declared.fault.SpaceFault.{SpaceFault}
 use Rattle.mg_space.specs.declared.fault.SpaceFault.TheVariants as space

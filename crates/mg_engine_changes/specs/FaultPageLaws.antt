@@ -1,5 +1,5 @@
 -- What is told of the disk's faults by calls on the pages.
-use Rattle.std.proofs.Common.{◌≡◌, ℕ, false, Some, Err, refl, sym, ap, ◌∙◌}
+use Rattle.std.proofs.Common.{◌≡◌, ℕ, false, List, Some, Err, refl, sym, ap, ◌∙◌}
 use Rattle.std.proofs.lemmas.Bool.{false≢true}
 use Rattle.mg_base.specs.Disk.{FailsNoWrite, Meaning}
 use Rattle.mg_base.specs.Image.{Image}
@@ -18,8 +18,15 @@ use Rattle.mg_space.specs.declared.fault.SpaceFault.TheVariants as space
 use Rattle.mg_space.specs.declared.links.FireLinks.{FireLinks}
 use Rattle.mg_version.specs.declared.cell.Version.{Version}
 use Rattle.mg_core.specs.Refusing.{IsRefusal, IsRefusalOf}
-use Rattle.mg_row_writes.specs.Changing.{ChangesOwn, FailsBatch, FailsOwn, not_changed, not_filled}
-use Rattle.mg_row_writes.specs.Laying.{FailsLay, FailsNew, FailsOverDead, Lays, no_first, no_place, not_cleared, not_pushed}
+use Rattle.mg_batches.specs.Batches.{ChangesOwn, FailsBatch, FailsOwn, not_changed, not_filled}
+use Rattle.mg_entries.specs.Entries.{FailsAll, LaysAll, no_index, one_more}
+use Rattle.mg_image.specs.Form.{Row}
+use Rattle.mg_model.specs.declared.table.Index.{Index}
+use Rattle.mg_model.specs.declared.table.Table.{Table}
+use Rattle.mg_records.specs.declared.write.Write.{Write}
+use Rattle.mg_records.specs.declared.write.Write.TheVariants as writes
+use Rattle.mg_row_writes.specs.Changing.{FailsFirst, FailsOver, FailsReplacing, MakesFirst, PushesOver, ReplacesNewest}
+use Rattle.mg_row_writes.specs.Laying.{EntersRow, EntersThen, FailsEntering, FailsLay, FailsNew, FailsOverDead, FailsThen, Lays, no_first, no_place, not_cleared, not_entered, not_pushed, not_put_in}
 use Rattle.mg_row_writes.specs.declared.before.Way.{Way}
 use Rattle.mg_row_writes.specs.declared.before.Way.TheVariants as ways
 use Rattle.mg_engine_changes.specs.Told.{Stands, disk_count, is_disks}
@@ -103,31 +110,81 @@ module _ {D : Type 0} (m : Meaning D) (k : FaultCount) where
   own_told a b fault (not_changed batch ready keeps online filled fails) quiet =
       batch_told ready b batch fault fails quiet ∙ met a ready online
 
+  -- ---- entries are laid
+
+  all_stand : (indexes : List Index) (p : RecId) (row : Row) (a b : Pool D FireLinks) → LaysAll m indexes p row a b
+      → Stands m k a b
+  all_stand indexes p row a b (no_index p_ row_ store) = refl
+  all_stand indexes p row a b (one_more first index p_ row_ before mid after laid lays) =
+      own_stands mid after lays ∙ all_stand first p_ row_ before mid laid
+
+  row_stands : (a b : Pool D FireLinks) (table : Table) (rec : RecId) (write : Write) → EntersRow m a b table rec write
+      → Stands m k a b
+  row_stands a b table rec (writes.Insert row) laid = all_stand table.indexes rec row a b laid
+  row_stands a b table rec (writes.Change key row) laid = all_stand table.indexes rec row a b laid
+  row_stands a b table rec (writes.Erase key) same = same_stands a b same
+
+  -- and then a version is
+  then_stands : (a b : Pool D FireLinks) (table : Table) (rec : RecId) (write : Write)
+      (puts : Pool D FireLinks → Type 0) → ((e : Pool D FireLinks) → puts e → Stands m k e b)
+      → EntersThen m a table rec write puts → Stands m k a b
+  then_stands a b table rec write puts each it =
+      each it.entered it.lays ∙ row_stands a it.entered table rec write it.enters
+
+  all_told : (indexes : List Index) (p : RecId) (row : Row) (a b : Pool D FireLinks) (fault : SpaceFault)
+      → FailsAll m indexes p row a b fault → is_disks k fault ≡ false → Stands m k a b
+  all_told indexes p row a b fault fails quiet =
+      own_told fails.mid b fault fails.refused quiet ∙ all_stand fails.first p row a fails.mid fails.laid
+
+  row_told : (a b : Pool D FireLinks) (table : Table) (rec : RecId) (write : Write) (fault : SpaceFault)
+      → FailsEntering m a b table rec write fault → is_disks k fault ≡ false → Stands m k a b
+  row_told a b table rec (writes.Insert row) fault fails quiet = all_told table.indexes rec row a b fault fails quiet
+  row_told a b table rec (writes.Change key row) fault fails quiet = all_told table.indexes rec row a b fault fails quiet
+  row_told a b table rec (writes.Erase key) fault fails quiet = absurd fails
+
+  then_told : (a b : Pool D FireLinks) (table : Table) (rec : RecId) (write : Write)
+      (fails : Pool D FireLinks → SpaceFault → Type 0) (fault : SpaceFault)
+      → ((e : Pool D FireLinks) → fails e fault → is_disks k fault ≡ false → Stands m k e b)
+      → FailsThen m a b table rec write fails fault → is_disks k fault ≡ false → Stands m k a b
+  then_told a b table rec write fails fault each (not_entered it) quiet = row_told a b table rec write fault it quiet
+  then_told a b table rec write fails fault each (not_put_in entered enters it) quiet =
+      each entered it quiet ∙ row_stands a entered table rec write enters
+
   -- ---- a version comes into the record of its key
 
-  pub lays_stand : (a b : Pool D FireLinks) (owner : ℕ) (way : Way) (v : Version) → Lays m a b owner way v
-      → Stands m k a b
-  lays_stand a b owner ways.Make v lays = own_stands lays.placed b lays.makes ∙ own_stands a lays.placed lays.takes
-  lays_stand a b owner (ways.Push rec) v lays = own_stands a b lays
-  lays_stand a b owner (ways.PushOverDead rec) v lays =
-      own_stands lays.cleared b lays.pushes ∙ own_stands a lays.cleared lays.takes
-  lays_stand a b owner (ways.Replace rec) v lays = own_stands a b lays
+  pub lays_stand : (a b : Pool D FireLinks) (table : Table) (way : Way) (write : Write) (v : Version)
+      → Lays m a b table way write v → Stands m k a b
+  lays_stand a b table ways.Make write v lays =
+      then_stands lays.placed b table lays.at write (λ e. MakesFirst m e b table.pointer.0 lays.at v)
+      (λ e own. own_stands e b own) lays.makes ∙ own_stands a lays.placed lays.takes
+  lays_stand a b table (ways.Push rec) write v lays = then_stands a b table rec write (λ e. PushesOver m e b rec v)
+      (λ e own. own_stands e b own) lays
+  lays_stand a b table (ways.PushOverDead rec) write v lays =
+      then_stands lays.cleared b table rec write (λ e. PushesOver m e b rec v) (λ e own. own_stands e b own) lays.pushes
+      ∙ own_stands a lays.cleared lays.takes
+  lays_stand a b table (ways.Replace rec) write v lays =
+      then_stands a b table rec write (λ e. ReplacesNewest m e b rec v) (λ e own. own_stands e b own) lays
 
-  new_told : (a b : Pool D FireLinks) (owner : ℕ) (v : Version) (fault : SpaceFault) → FailsNew m a b owner v fault
-      → is_disks k fault ≡ false → Stands m k a b
-  new_told a b owner v fault (no_place fails) quiet = own_told a b fault fails quiet
-  new_told a b owner v fault (no_first at placed takes fails) quiet =
-      own_told placed b fault fails quiet ∙ own_stands a placed takes
+  new_told : (a b : Pool D FireLinks) (table : Table) (write : Write) (v : Version) (fault : SpaceFault)
+      → FailsNew m a b table write v fault → is_disks k fault ≡ false → Stands m k a b
+  new_told a b table write v fault (no_place fails) quiet = own_told a b fault fails quiet
+  new_told a b table write v fault (no_first at placed takes fails) quiet =
+      then_told placed b table at write (λ e given. FailsFirst m e b table.pointer.0 at v given) fault
+      (λ e own. own_told e b fault own) fails quiet ∙ own_stands a placed takes
 
-  over_told : (a b : Pool D FireLinks) (rec : RecId) (v : Version) (fault : SpaceFault)
-      → FailsOverDead m a b rec v fault → is_disks k fault ≡ false → Stands m k a b
-  over_told a b rec v fault (not_cleared fails) quiet = own_told a b fault fails quiet
-  over_told a b rec v fault (not_pushed cleared takes fails) quiet =
-      own_told cleared b fault fails quiet ∙ own_stands a cleared takes
+  over_told : (a b : Pool D FireLinks) (table : Table) (rec : RecId) (write : Write) (v : Version) (fault : SpaceFault)
+      → FailsOverDead m a b table rec write v fault → is_disks k fault ≡ false → Stands m k a b
+  over_told a b table rec write v fault (not_cleared fails) quiet = own_told a b fault fails quiet
+  over_told a b table rec write v fault (not_pushed cleared takes fails) quiet =
+      then_told cleared b table rec write (λ e given. FailsOver m e b rec v given) fault
+      (λ e own. own_told e b fault own) fails quiet ∙ own_stands a cleared takes
 
-  pub lays_told : (a b : Pool D FireLinks) (owner : ℕ) (way : Way) (v : Version) (fault : SpaceFault)
-      → FailsLay m a b owner way v fault → is_disks k fault ≡ false → Stands m k a b
-  lays_told a b owner ways.Make v fault fails quiet = new_told a b owner v fault fails quiet
-  lays_told a b owner (ways.Push rec) v fault fails quiet = own_told a b fault fails quiet
-  lays_told a b owner (ways.PushOverDead rec) v fault fails quiet = over_told a b rec v fault fails quiet
-  lays_told a b owner (ways.Replace rec) v fault fails quiet = own_told a b fault fails quiet
+  pub lays_told : (a b : Pool D FireLinks) (table : Table) (way : Way) (write : Write) (v : Version)
+      (fault : SpaceFault) → FailsLay m a b table way write v fault → is_disks k fault ≡ false → Stands m k a b
+  lays_told a b table ways.Make write v fault fails quiet = new_told a b table write v fault fails quiet
+  lays_told a b table (ways.Push rec) write v fault fails quiet = then_told a b table rec write
+      (λ e given. FailsOver m e b rec v given) fault (λ e own. own_told e b fault own) fails quiet
+  lays_told a b table (ways.PushOverDead rec) write v fault fails quiet =
+      over_told a b table rec write v fault fails quiet
+  lays_told a b table (ways.Replace rec) write v fault fails quiet = then_told a b table rec write
+      (λ e given. FailsReplacing m e b rec v given) fault (λ e own. own_told e b fault own) fails quiet

@@ -12,9 +12,9 @@ use Rattle.mg_value.specs.declared.value.Value.{Value}
 use Rattle.mg_version.specs.declared.cell.Version.{Version}
 use Rattle.mg_core.specs.declared.parts.Core.{Core}
 use Rattle.mg_core.specs.Obstacles.{IsOfRecord, IsOfTable, StopsAtRecord, StopsAtTable, WhyOfRecord, WhyOfTable}
-use Rattle.mg_core.specs.Putting.{FailsKept, FailsPut, PutsRow, WhyNotBefore, no_before, no_lay, no_version, not_kept, not_laid, too_long}
+use Rattle.mg_core.specs.Putting.{FailsKept, FailsPut, PutsRow, WhyNotBefore, key_too_long, no_before, no_lay, no_version, not_kept, not_laid, too_long}
 use Rattle.mg_core.specs.Writing.{FailsKey, FailsRow, FailsWrite, HasBegun, HasFound, HasPassed, IsFree, ReadsRow, WhyOfKnown, Writes, at_record, at_row, at_table, key_memory, key_null, no_key, not_begun, not_put, only_reads, row_unread, row_wrong}
-use Rattle.mg_row_writes.specs.Changing.{not_lawful}
+use Rattle.mg_batches.specs.Batches.{not_lawful}
 use Rattle.mg_space.specs.declared.fault.SpaceFault.TheVariants as space
 use Rattle.mg_engine_changes.specs.FaultCoreLaws.{count, counted, ended, not_read, only_read, passes_stand, refused, stops_told}
 use Rattle.mg_engine_changes.specs.FaultPageLaws.{is_none, lays_stand, lays_told}
@@ -55,16 +55,19 @@ module _ {D : Type 0} (m : Meaning D) (k : FaultCount) where
   puts_stand : (old new : Core D) (t : TxNo) (table : Table) (write : Write) (key : Value) (rec : Option RecId)
       → PutsRow m old new t table write key rec → Stands m k old.store new.store
   puts_stand old new t table write key rec puts =
-      lays_stand m k puts.read.store new.store table.pointer.0 puts.before.way puts.version puts.laid.lays
+      lays_stand m k puts.read.store new.store table puts.before.way write puts.version puts.laid.lays
       ∙ only_read m k old puts.read puts.has.reads
 
-  kept_told : (old new : Core D) (t owner : ℕ) (key : Value) (before : Before) (v : Version) (refusal : Refusal)
-      → FailsKept m old new t owner key before v refusal → TellsRise m k old new (Some refusal)
-  kept_told old new t owner key before v refusal (too_long may counts) quiet =
+  kept_told : (old new : Core D) (t : ℕ) (table : Table) (write : Write) (key : Value) (before : Before) (v : Version)
+      (refusal : Refusal) → FailsKept m old new t table write key before v refusal
+      → TellsRise m k old new (Some refusal)
+  kept_told old new t table write key before v refusal (too_long may counts) quiet =
       counted m k old new (space.Damaged not_lawful) refusal counts
-  kept_told old new t owner key before v refusal (not_kept may tells) quiet = ap (count m k) tells.1
-  kept_told old new t owner key before v refusal (not_laid fails) quiet =
-      lays_told m k old.store new.store owner before.way v fails.fault fails.fails
+  kept_told old new t table write key before v refusal (key_too_long may counts) quiet =
+      counted m k old new (space.Damaged not_lawful) refusal counts
+  kept_told old new t table write key before v refusal (not_kept may tells) quiet = ap (count m k) tells.1
+  kept_told old new t table write key before v refusal (not_laid fails) quiet =
+      lays_told m k old.store new.store table before.way write v fails.fault fails.fails
       (is_none k fails.fault refusal fails.is quiet)
 
   put_told : (old new : Core D) (t : TxNo) (table : Table) (write : Write) (key : Value) (rec : Option RecId)
@@ -73,7 +76,7 @@ module _ {D : Type 0} (m : Meaning D) (k : FaultCount) where
   put_told old new t table write key rec refusal (no_before fails) quiet =
       not_read m k old new (WhyNotBefore m old table rec) refusal fails quiet
   put_told old new t table write key rec refusal (no_lay read before v has fails) quiet =
-      kept_told read new t.0 table.pointer.0 key before v refusal fails quiet ∙ only_read m k old read has.reads
+      kept_told read new t.0 table write key before v refusal fails quiet ∙ only_read m k old read has.reads
 
   -- ---- the stages' refusals
 

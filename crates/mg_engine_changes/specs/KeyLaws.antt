@@ -40,7 +40,7 @@ use Rattle.mg_pool.specs.declared.pool.Pool.{Pool}
 use Rattle.mg_pool_overlays.specs.Needs.{Asked, Sessions}
 use Rattle.mg_records.specs.declared.write.Write.{Write}
 use Rattle.mg_records.specs.declared.write.Write.TheVariants as writes
-use Rattle.mg_row_writes.specs.Changing.{ChangesOwn}
+use Rattle.mg_batches.specs.Batches.{ChangesOwn}
 use Rattle.mg_row_writes.specs.Storing.{alone_at, row_stored}
 use Rattle.mg_rowcode.specs.Storable.{AreStorable, IsStorable}
 use Rattle.mg_seek.specs.Speaking.{IsSpeaker}

@@ -34,7 +34,7 @@ use Rattle.mg_pool.specs.Dirty.{DirtyPages}
 use Rattle.mg_pool.specs.Pool.{IsPool, shown}
 use Rattle.mg_pool.specs.declared.pool.Pool.{Pool}
 use Rattle.mg_pool_overlays.specs.Needs.{Asked, Sessions}
-use Rattle.mg_row_writes.specs.Changing.{ChangesOwn}
+use Rattle.mg_batches.specs.Batches.{ChangesOwn}
 use Rattle.mg_seek.specs.Versions.{FirstAt, is_it, is_older}
 use Rattle.mg_seek.specs.declared.walk.Placed.{Placed}
 use Rattle.mg_space.specs.Taking.{IsGeometry}

@@ -73,6 +73,14 @@ pub record StaysOver {D : Type 0} (m : Meaning D) (old : Core D) (store : Pool D
   pub walks : (i : Image) → m.held old.store.disk ≡ Some i → WalkInto m old.store.geometry.size (bare_standing old)
       (shown old.store.dirty i) store (bare_standing old) t
 
+-- an engine that has read all that a write asks for stays so
+abbrev pub ReadyStays : (D P : Type 0) → Meaning D → Type 0
+ReadyStays D P m = (places : Places P) (old read : Core D) (t : TxNo) (table : Table) (write : Write)
+    (before : Before) (version : Version) (o : Opening) (h : Entries) → IsCore m old
+    → given_to old.works t.0 table.name ≡ Some table → HasNoted old.works t.0 table → FitsShape table.shape write
+    → AreStorable (row_stored table write) → IsReady m old read t table write before version → StandsFor m old o h
+    → StaysOver m old read.store o h t.0
+
 -- the first batch of a version of a table that was given, and is kept, leaves the engine with the history: a place was taken
 abbrev pub PlacesStay : (D P : Type 0) → Meaning D → Type 0
 PlacesStay D P m = (places : Places P) (old read : Core D) (t : TxNo) (table : Table) (write : Write)

@@ -33,7 +33,9 @@ use Rattle.mg_pool.specs.declared.pool.Pool.{Pool}
 use Rattle.mg_row_writes.specs.Befores.{IsBefore, IsBeforeBy, IsBeforeOf}
 use Rattle.mg_row_writes.specs.Finding.{IsInWay}
 use Rattle.mg_row_writes.specs.Changing.{TakesNewestOut, TakesPlace}
-use Rattle.mg_row_writes.specs.Laying.{Lays, LaysNew, LaysOverDead, laid_in}
+use Rattle.mg_row_writes.specs.Bare.{BareLays, BareNew, BareOverDead, IsBare, bare_in}
+use Rattle.mg_row_writes.specs.BareLaws.{bare_lays, bare_there}
+use Rattle.mg_row_writes.specs.Laying.{laid_in}
 use Rattle.mg_row_writes.specs.Storing.{row_stored, written_at}
 use Rattle.mg_row_writes.specs.declared.before.Before.{Before}
 use Rattle.mg_row_writes.specs.declared.before.Way.{Way}
@@ -84,6 +86,7 @@ use Rattle.mg_engine_changes.specs.Befores.{BeforesAreTold}
 use Rattle.mg_engine_changes.specs.Codes.{StoredRowsAreCoded}
 use Rattle.mg_engine_meaning.specs.Formers.{MayReturn}
 use Rattle.mg_engine_changes.specs.Enters.{cleared_told, committed_stands, dead_cleared, pushed_stands, replaced_stands, made_stands, placed_told, spot_taken, tells, there, was_told}
+use Rattle.mg_engine_changes.specs.BareTables.{given_bare}
 use Rattle.mg_engine_changes.specs.Kept.{MadeWritesFollow, made_by}
 use Rattle.mg_engine_changes.specs.Clearing.{HasCleared, StaysFor}
 use Rattle.mg_engine_changes.specs.Laid.{GoesOnWith, HasNoted, StaysOver, bare_standing}
@@ -191,6 +194,9 @@ module _ (speakers : SpeakersAreTold) (obstacles : ObstaclesAtKeys) (rows : Rows
   online : old.store.offline ≡ None
   online = begun.continues.0
 
+  bare : IsBare table
+  bare = given_bare m old o h stands online t.0 begun.continues.1 table given
+
   answered : answer o h (event_of t table.name write) ≡ Fine
   answered = free_answer speakers obstacles rows nothing begin verdicts nobody dirs m places counts_now old core t table
       write given begun.continues o h stands ready.free ready.wait ready.rec free
@@ -291,6 +297,18 @@ module _ (speakers : SpeakersAreTold) (obstacles : ObstaclesAtKeys) (rows : Rows
             (HoldsAcknowledged packed_form old.store.dirty.size o h) mid_leaves.since on_it.since;
         left = on_it.left;
       }
+
+  -- where pages were only read, all stays
+  pub read_stays : StaysOver m old read.store o h t.0
+  read_stays = record {
+    stands = mid_stands;
+    leaves = mid_leaves;
+    walks = λ i held u ne also x from rows_ next. (
+      mid_shows.image,
+      mid_shows.held,
+      walk_mid i held u x from rows_ next,
+    );
+  }
 
   -- ---- a first batch, which adds nothing to the history
 
@@ -462,10 +480,10 @@ module _ (speakers : SpeakersAreTold) (obstacles : ObstaclesAtKeys) (rows : Rows
 
   -- ---- the version is laid
 
-  module _ (new : Core D) (laid : LaysKept m read (record new { directories = read.directories }) t.0 table.pointer.0
+  module _ (new : Core D) (laid : LaysKept m read (record new { directories = read.directories }) t.0 table write
       (written_at table write) before version) (notes : NotesOrDrops (by_table read.directories.dirs)
       (by_table new.directories.dirs) table.pointer.0 (key_bytes (written_at table write))
-      (laid_in m read.store new.store table.pointer.0 before.way version laid.lays))
+      (laid_in m read.store new.store table before.way write version laid.lays))
     where
       new_is : new ≡ record old {
         store = new.store;
@@ -480,19 +498,22 @@ module _ (speakers : SpeakersAreTold) (obstacles : ObstaclesAtKeys) (rows : Rows
             directories = new.directories;
           }) since.same
 
-      -- where it was laid, its record was noted
+      -- where it was laid, its record was noted; it has no entries
       abbrev LaidAt : Way → Type 0
-      LaidAt w = (lays : Lays m read.store new.store table.pointer.0 w version)
+      LaidAt w = (lays : BareLays m read.store new.store table.pointer.0 w version)
           × NotesOrDrops (by_table old.directories.dirs) (by_table new.directories.dirs) table.pointer.0
-          (key_bytes (written_at table write)) (laid_in m read.store new.store table.pointer.0 w version lays)
+          (key_bytes (written_at table write)) (bare_in m read.store new.store table.pointer.0 w version lays)
 
       laid_at : (w : Way) → before.way ≡ w → LaidAt w
       laid_at w is = subst LaidAt is (
-        laid.lays,
-        subst (λ (k : Kept). NotesOrDrops (by_table k.dirs) (by_table new.directories.dirs) table.pointer.0
+        bare_lays m table bare read.store new.store before.way write version laid.lays,
+        subst (λ (r : RecId). NotesOrDrops (by_table old.directories.dirs) (by_table new.directories.dirs)
+            table.pointer.0 (key_bytes (written_at table write)) r)
+            (bare_there m table bare read.store new.store before.way write version laid.lays)
+            (subst (λ (k : Kept). NotesOrDrops (by_table k.dirs) (by_table new.directories.dirs) table.pointer.0
             (key_bytes (written_at table write))
-            (laid_in m read.store new.store table.pointer.0 before.way version laid.lays))
-            (ap (λ (c : Core D). c.directories) since.same) notes,
+            (laid_in m read.store new.store table before.way write version laid.lays))
+            (ap (λ (c : Core D). c.directories) since.same) notes),
       )
 
       abbrev s_new : Standing
@@ -622,7 +643,7 @@ module _ (speakers : SpeakersAreTold) (obstacles : ObstaclesAtKeys) (rows : Rows
 
       module _ (still : RowsLastStill D FireLinks m packed_form) (first_on : FirstsGoOn packed_form D FireLinks m)
           (way : before.way ≡ ways.Make) where
-        abbrev laid_new : LaysNew m read.store new.store table.pointer.0 version
+        abbrev laid_new : BareNew m read.store new.store table.pointer.0 version
         laid_new = (laid_at ways.Make way).0
 
         abbrev at_place : HasTaken m o h (standing_of (record old { store = read.store }) mid_stands.numbers
@@ -676,7 +697,7 @@ module _ (speakers : SpeakersAreTold) (obstacles : ObstaclesAtKeys) (rows : Rows
 
       module _ (speak : SpeakersOfReadings) (deads : DeadsGo packed_form D FireLinks m) (rec : RecId)
           (way : before.way ≡ ways.PushOverDead rec) where
-        abbrev laid_over : LaysOverDead m read.store new.store rec version
+        abbrev laid_over : BareOverDead m read.store new.store rec version
         laid_over = (laid_at (ways.PushOverDead rec) way).0
 
         abbrev over_out : HasCleared m o h (standing_of (record old { store = read.store }) mid_stands.numbers

@@ -18,6 +18,7 @@ pub mod BackWalks
 pub mod BackWalksLaws
 pub mod Backs
 pub mod BacksLaws
+pub mod BareTables
 pub mod BatchLeaves
 pub mod BeforeLaws
 pub mod Befores

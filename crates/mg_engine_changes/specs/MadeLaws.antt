@@ -17,8 +17,13 @@ use Rattle.mg_pool.specs.declared.pool.Pool.{Pool}
 use Rattle.mg_records.specs.Keeping.{WalksStay}
 use Rattle.mg_records.specs.Writing.{event_of}
 use Rattle.mg_records.specs.declared.write.Write.{Write}
-use Rattle.mg_row_writes.specs.Changing.{ChangesOwn}
-use Rattle.mg_row_writes.specs.Laying.{Lays}
+use Rattle.mg_batches.specs.Batches.{ChangesOwn}
+use Rattle.mg_entries.specs.Entries.{LaysAll, no_index, one_more}
+use Rattle.mg_image.specs.Form.{Row}
+use Rattle.mg_model.specs.declared.table.Index.{Index}
+use Rattle.mg_records.specs.declared.write.Write.TheVariants as writes
+use Rattle.mg_row_writes.specs.Changing.{MakesFirst, PushesOver, ReplacesNewest}
+use Rattle.mg_row_writes.specs.Laying.{EntersRow, EntersThen, Lays}
 use Rattle.mg_row_writes.specs.Storing.{written_at}
 use Rattle.mg_row_writes.specs.declared.before.Way.{Way}
 use Rattle.mg_row_writes.specs.declared.before.Way.TheVariants as ways
@@ -99,14 +104,49 @@ own_on {D} m a b fills own = record {
       own.changed.changes.written (ap (λ (d : DirtyPages). is_marked d page who) own.keeps.dirty ∙ none));
 }
 
-lay_on : {D : Type 0} (m : Meaning D) (a b : Pool D FireLinks) (owner : ℕ) (way : Way) (v : Version)
-    → Lays m a b owner way v → StoreOn m a b
-lay_on m a b owner ways.Make v lays = on_then m a lays.placed b (own_on m a lays.placed _ lays.takes)
-    (own_on m lays.placed b _ lays.makes)
-lay_on m a b owner (ways.Push rec) v lays = own_on m a b _ lays
-lay_on m a b owner (ways.PushOverDead rec) v lays = on_then m a lays.cleared b (own_on m a lays.cleared _ lays.takes)
-    (own_on m lays.cleared b _ lays.pushes)
-lay_on m a b owner (ways.Replace rec) v lays = own_on m a b _ lays
+-- a store that has met no failed page write goes on by itself
+pub stays_on : {D : Type 0} (m : Meaning D) (a : Pool D FireLinks) → a.offline ≡ None → StoreOn m a a
+stays_on m a up = record { goes = store_stands m a; online = up; unmarked = λ page who none. none }
+
+-- entries are laid
+pub all_on : {D : Type 0} (m : Meaning D) (indexes : List Index) (p : RecId) (row : Row) (a b : Pool D FireLinks)
+    → a.offline ≡ None → LaysAll m indexes p row a b → StoreOn m a b
+all_on m indexes p row a b up (no_index p_ row_ store) = stays_on m store up
+all_on m indexes p row a b up (one_more first index p_ row_ before mid after laid lays) = on_then m before mid after
+    (all_on m first p_ row_ before mid up laid) (own_on m mid after _ lays)
+
+pub row_on : {D : Type 0} (m : Meaning D) (a b : Pool D FireLinks) (table : Table) (rec : RecId) (write : Write)
+    → a.offline ≡ None → EntersRow m a b table rec write → StoreOn m a b
+row_on m a b table rec (writes.Insert row) up laid = all_on m table.indexes rec row a b up laid
+row_on m a b table rec (writes.Change key row) up laid = all_on m table.indexes rec row a b up laid
+row_on {D} m a b table rec (writes.Erase key) up same = subst (λ (s : Pool D FireLinks). StoreOn m a s) (sym same)
+    (stays_on m a up)
+
+-- and then a version is
+then_on : {D : Type 0} (m : Meaning D) (a b : Pool D FireLinks) (table : Table) (rec : RecId) (write : Write)
+    (puts : Pool D FireLinks → Type 0) → a.offline ≡ None → ((e : Pool D FireLinks) → puts e → StoreOn m e b)
+    → EntersThen m a table rec write puts → StoreOn m a b
+then_on m a b table rec write puts up each it = on_then m a it.entered b
+    (row_on m a it.entered table rec write up it.enters) (each it.entered it.lays)
+
+lay_on : {D : Type 0} (m : Meaning D) (a b : Pool D FireLinks) (table : Table) (way : Way) (write : Write) (v : Version)
+    → a.offline ≡ None → Lays m a b table way write v → StoreOn m a b
+lay_on {D} m a b table ways.Make write v up lays = on_then m a lays.placed b placed
+    (then_on m lays.placed b table lays.at write (λ e. MakesFirst m e b table.pointer.0 lays.at v) placed.online
+    (λ e own. own_on m e b _ own) lays.makes)
+  where
+    placed : StoreOn m a lays.placed
+    placed = own_on m a lays.placed _ lays.takes
+lay_on m a b table (ways.Push rec) write v up lays = then_on m a b table rec write (λ e. PushesOver m e b rec v) up
+    (λ e own. own_on m e b _ own) lays
+lay_on {D} m a b table (ways.PushOverDead rec) write v up lays = on_then m a lays.cleared b cleared
+    (then_on m lays.cleared b table rec write (λ e. PushesOver m e b rec v) cleared.online
+    (λ e own. own_on m e b _ own) lays.pushes)
+  where
+    cleared : StoreOn m a lays.cleared
+    cleared = own_on m a lays.cleared _ lays.takes
+lay_on m a b table (ways.Replace rec) write v up lays = then_on m a b table rec write
+    (λ e. ReplacesNewest m e b rec v) up (λ e own. own_on m e b _ own) lays
 
 -- ---- memory
 
@@ -166,8 +206,8 @@ module _ {D P : Type 0} (m : Meaning D) (places : Places P) (old new : Core D) (
   store_on : StoreOn m old.store new.store
   store_on = on_then m old.store written.puts.read.store new.store
       (read_on m old.store written.puts.read.store since.keeps (since.keeps.offline ∙ online))
-      (lay_on m written.puts.read.store new.store table.pointer.0 written.puts.before.way written.puts.version
-      written.puts.laid.lays)
+      (lay_on m written.puts.read.store new.store table written.puts.before.way write written.puts.version
+      (since.keeps.offline ∙ online) written.puts.laid.lays)
 
   stay : WorksStay old.works new.works t.0
   stay = subst (λ (ws : List Working). WorksStay old.works ws t.0) (sym works_is)

@@ -33,7 +33,7 @@ use Rattle.mg_image.specs.Form.{Pages, packed_form}
 use Rattle.mg_lasting.specs.Changing.{QuietHolds}
 use Rattle.mg_pool.specs.Pool.{shown}
 use Rattle.mg_pool.specs.declared.pool.Pool.{Pool}
-use Rattle.mg_row_writes.specs.Changing.{not_lawful}
+use Rattle.mg_batches.specs.Batches.{not_lawful}
 use Rattle.mg_row_writes.specs.Finding.{IsRowAt}
 use Rattle.mg_row_writes.specs.declared.finding.RowAt.{RowAt}
 use Rattle.mg_seek.specs.declared.views.Obstacle.{Obstacle}

@@ -24,7 +24,7 @@ use Rattle.mg_image.specs.Form.{Pages, packed_form}
 use Rattle.mg_lasting.specs.Changing.{QuietHolds}
 use Rattle.mg_pool.specs.Pool.{shown}
 use Rattle.mg_pool.specs.declared.pool.Pool.{Pool}
-use Rattle.mg_row_writes.specs.Changing.{not_lawful}
+use Rattle.mg_batches.specs.Batches.{not_lawful}
 use Rattle.mg_row_writes.specs.Storing.{written_at}
 use Rattle.mg_row_writes.specs.declared.before.Before.{Before}
 use Rattle.mg_seek.specs.declared.views.Obstacle.{Obstacle}
@@ -40,7 +40,7 @@ use Rattle.mg_works.specs.Works.{given_to}
 use Rattle.mg_core.specs.declared.parts.Core.{Core}
 use Rattle.mg_core.specs.Cores.{IsCore}
 use Rattle.mg_core.specs.Obstacles.{Hinders, HindersBy, IsOfRecord, IsOfTable, IsTold, NotesWait, StopsAtRecord, StopsAtTable, hindered, unread}
-use Rattle.mg_core.specs.Putting.{CountsOne, FailsKept, FailsPut, HasBefore, no_before, no_lay, no_version, not_kept, not_laid, too_long}
+use Rattle.mg_core.specs.Putting.{CountsOne, FailsKept, FailsPut, HasBefore, key_too_long, no_before, no_lay, no_version, not_kept, not_laid, too_long}
 use Rattle.mg_core.specs.Reading.{FailsReading}
 use Rattle.mg_core.specs.Writing.{FailsRow, FailsWrite, HasBegun, HasFound, HasPassed, IsFree, at_record, at_row, at_table, key_memory, key_null, no_key, not_begun, not_put, only_reads, row_unread, row_wrong}
 use Rattle.mg_engine_meaning.specs.EventLaws.{refused_gives}
@@ -184,10 +184,13 @@ module _ (speakers : SpeakersAreTold) (obstacles : ObstaclesAtKeys) (rows : Rows
 
   kept_or : (free : Core D) (wait : Bool) (rec : Option RecId) (is_free : IsFree m old free t table write wait rec)
       (read : Core D) (before : Before) (v : Version) (has : HasBefore m free read t table write rec before v)
-      → FailsKept m read new t.0 table.pointer.0 (written_at table write) before v refusal
+      → FailsKept m read new t.0 table write (written_at table write) before v refusal
       → Still
       ⊎ IsNotLaid m old new t table write refusal
   kept_or free wait rec is_free read before v has (too_long long one) = inl (counts
+      (online_free free wait rec is_free) read (reads_on m counts_now old free read t.0
+      (free_read m counts_now old core t table write free wait rec is_free) has.reads) one)
+  kept_or free wait rec is_free read before v has (key_too_long long one) = inl (counts
       (online_free free wait rec is_free) read (reads_on m counts_now old free read t.0
       (free_read m counts_now old core t table write free wait rec is_free) has.reads) one)
   kept_or free wait rec is_free read before v has (not_kept may told) = inl (wants

@@ -37,7 +37,7 @@ pub record IsNotLaid {D : Type 0} (m : Meaning D) (old new : Core D) (t : TxNo) 
   pub before : Before
   pub version : Version
   pub ready : IsReady m old read t table write before version
-  pub fails : FailsLaid m read new t.0 table.pointer.0 (written_at table write) before version refusal
+  pub fails : FailsLaid m read new t.0 table write (written_at table write) before version refusal
 
 -- A write is refused, and gives its event with the refusal; what is kept of transactions is as it was.
 pub record RefusesStill {D P : Type 0} (m : Meaning D) (places : Places P) (old new : Core D) (event : Event)

@@ -18,7 +18,7 @@ use Rattle.mg_pool.specs.Refusal.{FailsWrites, LeavesRefused}
 use Rattle.mg_pool.specs.declared.fault.PoolFault.{PoolFault}
 use Rattle.mg_pool.specs.declared.fault.PoolFault.TheVariants as pool_faults
 use Rattle.mg_pool.specs.declared.pool.Pool.{Pool}
-use Rattle.mg_row_writes.specs.Changing.{FailsBatch, FailsOwn, not_changed, not_filled}
+use Rattle.mg_batches.specs.Batches.{FailsBatch, FailsOwn, not_changed, not_filled}
 use Rattle.mg_space.specs.View.{KeepsStore, pool_answer}
 use Rattle.mg_space.specs.declared.fault.SpaceFault.{SpaceFault}
 use Rattle.mg_space.specs.declared.fault.SpaceFault.TheVariants as faults

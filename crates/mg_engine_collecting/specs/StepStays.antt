@@ -73,7 +73,7 @@ use Rattle.mg_pool.specs.Batch.{Changed}
 use Rattle.mg_pool.specs.Pool.{IsPool, shown}
 use Rattle.mg_pool.specs.declared.pool.Pool.{Pool}
 use Rattle.mg_pool_overlays.specs.Needs.{Asked, Sessions}
-use Rattle.mg_row_writes.specs.Changing.{ChangesOwn}
+use Rattle.mg_batches.specs.Batches.{ChangesOwn}
 use Rattle.mg_snap.specs.Live.{all_see, needed, sees}
 use Rattle.mg_snap.specs.LiveLaws.{unneeded}
 use Rattle.mg_space.specs.Taking.{IsGeometry}

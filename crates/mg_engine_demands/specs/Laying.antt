@@ -1,4 +1,4 @@
--- A version comes into the record of its key: the steps that this is, by its way.
+-- A version comes into the record of its key, in a table without indexes: the steps that this is, by its way.
 use Rattle.std.specs.Prelude.{◌≡◌, ℕ, false, None, Some}
 use Rattle.mg_base.specs.Disk.{Meaning}
 use Rattle.mg_base.specs.Image.{Image}
@@ -11,8 +11,9 @@ use Rattle.mg_model.specs.Answers.{is_committed}
 use Rattle.mg_model.specs.declared.table.Table.{Table}
 use Rattle.mg_pool.specs.Pool.{shown}
 use Rattle.mg_pool.specs.declared.pool.Pool.{Pool}
-use Rattle.mg_row_writes.specs.Changing.{PushesOver, nothing_yet}
-use Rattle.mg_row_writes.specs.Laying.{Lays, LaysNew, LaysOverDead}
+use Rattle.mg_batches.specs.Batches.{nothing_yet}
+use Rattle.mg_row_writes.specs.Changing.{PushesOver}
+use Rattle.mg_row_writes.specs.Bare.{BareLays, BareNew, BareOverDead}
 use Rattle.mg_row_writes.specs.declared.before.Way.{Way}
 use Rattle.mg_row_writes.specs.declared.before.Way.TheVariants as ways
 use Rattle.mg_space.specs.View.{Tells}
@@ -35,7 +36,7 @@ moved_to at store image layout = record at { store = store; image = image; layou
 
 -- A record is made: what is known before its place is taken, and before it gets its first version.
 pub record KnowsNew {D : Type 0} (m : Meaning D) (at : Moment D) (store : Pool D FireLinks) (later : Layout) (t : ℕ)
-    (table : Table) (v : Version) (lays : LaysNew m at.store store table.pointer.0 v) : Type 0 where
+    (table : Table) (v : Version) (lays : BareNew m at.store store table.pointer.0 v) : Type 0 where
   pub first : Layout
   pub image : Image
   pub told : Tells m lays.placed.disk image
@@ -54,7 +55,7 @@ pub record KnowsPush {D : Type 0} (m : Meaning D) (at : Moment D) (store : Pool 
 
 -- A dead transaction's version is taken out first: it has not committed, and the one behind it has.
 pub record KnowsOverDead {D : Type 0} (m : Meaning D) (at : Moment D) (store : Pool D FireLinks) (later : Layout)
-    (t : ℕ) (table : Table) (rec : RecId) (v : Version) (lays : LaysOverDead m at.store store rec v) : Type 0 where
+    (t : ℕ) (table : Table) (rec : RecId) (v : Version) (lays : BareOverDead m at.store store rec v) : Type 0 where
   pub first : Layout
   pub image : Image
   pub told : Tells m lays.cleared.disk image
@@ -72,7 +73,7 @@ pub record KnowsReplace {D : Type 0} (at : Moment D) (later : Layout) (t : ℕ) 
 
 -- what is known, by the way
 abbrev pub KnowsLay : {D : Type 0} (m : Meaning D) (at : Moment D) (store : Pool D FireLinks) (later : Layout) (t : ℕ)
-    (table : Table) (v : Version) (way : Way) → Lays m at.store store table.pointer.0 way v → Type 0
+    (table : Table) (v : Version) (way : Way) → BareLays m at.store store table.pointer.0 way v → Type 0
 KnowsLay m at store later t table v ways.Make lays = KnowsNew m at store later t table v lays
 KnowsLay m at store later t table v (ways.Push rec) lays = KnowsPush m at store later t table rec v lays
 KnowsLay m at store later t table v (ways.PushOverDead rec) lays = KnowsOverDead m at store later t table rec v lays
@@ -81,6 +82,6 @@ KnowsLay m at store later t table v (ways.Replace rec) lays = KnowsReplace at la
 -- the law: these are steps of an engine's run
 abbrev pub LaysGo : (D : Type 0) → Meaning D → Type 0
 LaysGo D m = (at : Moment D) (store : Pool D FireLinks) (j : Image) (later : Layout) (t : ℕ) (table : Table)
-    (v : Version) (way : Way) (lays : Lays m at.store store table.pointer.0 way v) → Tells m at.store.disk at.image
+    (v : Version) (way : Way) (lays : BareLays m at.store store table.pointer.0 way v) → Tells m at.store.disk at.image
     → m.held store.disk ≡ Some j → v.tx.0 ≡ t → KnowsLay m at store later t table v way lays
     → GoesOn m at (moved_to at store j later)

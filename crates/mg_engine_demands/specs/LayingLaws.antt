@@ -7,8 +7,9 @@ use Rattle.mg_chain.specs.Writing.{GivesSpot, MakesRecord, Pushes, Replaces, Tak
 use Rattle.mg_image.specs.Tables.{Layout}
 use Rattle.mg_model.specs.declared.table.Table.{Table}
 use Rattle.mg_pool.specs.declared.pool.Pool.{Pool}
-use Rattle.mg_row_writes.specs.Changing.{PushesOver, ReplacesNewest, nothing_yet}
-use Rattle.mg_row_writes.specs.Laying.{LaysNew, LaysOverDead}
+use Rattle.mg_batches.specs.Batches.{nothing_yet}
+use Rattle.mg_row_writes.specs.Changing.{PushesOver, ReplacesNewest}
+use Rattle.mg_row_writes.specs.Bare.{BareNew, BareOverDead}
 use Rattle.mg_row_writes.specs.declared.before.Way.TheVariants as ways
 use Rattle.mg_space.specs.View.{Tells}
 use Rattle.mg_space.specs.declared.links.FireLinks.{FireLinks}
@@ -37,7 +38,7 @@ module _ (D : Type 0) (m : Meaning D) (at : Moment D) (store : Pool D FireLinks)
       (own_change m at.store store at.image j (λ image batch. Replaces at.store image nothing_yet batch rec v) over told held)
       knows.may.writes (a_replacement rec v knows.may.stood (over.filled at.image told) its knows.page)
 
-  new_goes : (lays : LaysNew m at.store store table.pointer.0 v) → KnowsNew m at store later t table v lays
+  new_goes : (lays : BareNew m at.store store table.pointer.0 v) → KnowsNew m at store later t table v lays
       → GoesOn m at (moved_to at store j later)
   new_goes lays knows = goes at (moved_to at lays.placed knows.image knows.first) (moved_to at store j later)
       (puts_batch at lays.placed knows.image knows.first knows.place.reading t table lays.takes.batch
@@ -54,7 +55,7 @@ module _ (D : Type 0) (m : Meaning D) (at : Moment D) (store : Pool D FireLinks)
 module _ (D : Type 0) (m : Meaning D) (at : Moment D) (store : Pool D FireLinks) (j : Image) (later : Layout) (t : ℕ)
     (table : Table) (v : Version) (told : Tells m at.store.disk at.image) (held : m.held store.disk ≡ Some j)
     (its : v.tx.0 ≡ t) where
-  over_dead_goes : (rec : RecId) (lays : LaysOverDead m at.store store rec v)
+  over_dead_goes : (rec : RecId) (lays : BareOverDead m at.store store rec v)
       → KnowsOverDead m at store later t table rec v lays → GoesOn m at (moved_to at store j later)
   over_dead_goes rec lays knows = goes at (moved_to at lays.cleared knows.image knows.first) (moved_to at store j later)
       (puts_batch at lays.cleared knows.image knows.first knows.out.reading t table lays.takes.batch

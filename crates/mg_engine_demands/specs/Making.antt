@@ -7,7 +7,7 @@ use Rattle.mg_image.specs.Records.{Reading}
 use Rattle.mg_image.specs.Tables.{Layout}
 use Rattle.mg_model.specs.declared.table.Table.{Table}
 use Rattle.mg_pool.specs.declared.pool.Pool.{Pool}
-use Rattle.mg_row_writes.specs.Changing.{nothing_yet}
+use Rattle.mg_batches.specs.Batches.{nothing_yet}
 use Rattle.mg_space.specs.View.{Tells}
 use Rattle.mg_space.specs.declared.links.FireLinks.{FireLinks}
 use Rattle.mg_table_batch.specs.Filling.{FillsTable}

@@ -4,7 +4,7 @@ use Rattle.std.proofs.Common.{subst}
 use Rattle.mg_base.specs.Disk.{Meaning}
 use Rattle.mg_base.specs.declared.numbers.PageNo.{PageNo}
 use Rattle.mg_heap.specs.Room.{GivesRoom}
-use Rattle.mg_row_writes.specs.Changing.{nothing_yet}
+use Rattle.mg_batches.specs.Batches.{nothing_yet}
 use Rattle.mg_space.specs.View.{Tells}
 use Rattle.mg_table_batch.specs.Filling.{FillsTable}
 use Rattle.mg_engine_demands.specs.Laying.{moved_to}

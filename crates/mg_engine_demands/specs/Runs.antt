@@ -22,7 +22,7 @@ use Rattle.mg_pool.specs.Dirty.{is_marked}
 use Rattle.mg_pool.specs.Pool.{shown}
 use Rattle.mg_pool.specs.Run.{HasWritten}
 use Rattle.mg_pool.specs.declared.pool.Pool.{Pool}
-use Rattle.mg_row_writes.specs.Changing.{nothing_yet}
+use Rattle.mg_batches.specs.Batches.{nothing_yet}
 use Rattle.mg_demands.specs.Roots.{roots_of}
 use Rattle.mg_space.specs.Demands.{demands_of, meets_of}
 use Rattle.mg_space.specs.View.{KeepsStore, Tells}

@@ -20,7 +20,7 @@ use Rattle.mg_pool.specs.Pool.{cache_of, shown, taken_out}
 use Rattle.mg_pool.specs.Run.{HasWritten}
 use Rattle.mg_pool.specs.DirtyPage.{DirtyPage}
 use Rattle.mg_pool.specs.declared.pool.Pool.{Pool}
-use Rattle.mg_row_writes.specs.Changing.{ChangesOwn}
+use Rattle.mg_batches.specs.Batches.{ChangesOwn}
 use Rattle.mg_space.specs.View.{KeepsStore, Tells, viewed}
 use Rattle.mg_space.specs.declared.links.FireLinks.{FireLinks}
 use Rattle.mg_demands.specs.PoolTies.{cache_over, lays}

@@ -17,7 +17,7 @@ use Rattle.mg_overlays.specs.Overlays.{left_by, left_state}
 use Rattle.mg_pool.specs.Batch.{Changed, content_in, lists}
 use Rattle.mg_pool.specs.Pool.{shown}
 use Rattle.mg_pool.specs.declared.pool.Pool.{Pool}
-use Rattle.mg_row_writes.specs.Changing.{nothing_yet}
+use Rattle.mg_batches.specs.Batches.{nothing_yet}
 use Rattle.mg_space.specs.Taking.{region_of}
 use Rattle.mg_space.specs.View.{viewed}
 use Rattle.mg_space.specs.declared.links.TheConstants.{BIT, POINTER}

@@ -17,7 +17,7 @@ use Rattle.mg_overlays.specs.Overlays.{left_state}
 use Rattle.mg_pool.specs.Batch.{Changed}
 use Rattle.mg_pool.specs.Pool.{shown}
 use Rattle.mg_pool.specs.declared.pool.Pool.{Pool}
-use Rattle.mg_row_writes.specs.Changing.{nothing_yet}
+use Rattle.mg_batches.specs.Batches.{nothing_yet}
 use Rattle.mg_space.specs.Taking.{IsGeometry}
 use Rattle.mg_space.specs.declared.links.FireLinks.{FireLinks}
 use Rattle.mg_image_overlays.specs.Growing.{IsTableOf}

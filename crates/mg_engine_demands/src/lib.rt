@@ -13,7 +13,7 @@
 //! | pages are read, or written | `KeepsStore`, `HasWritten` | `ReadsKeep`, `PageWritesKeep` | `Stores` |
 //! | a batch is changed | `ChangesStore` (`own_change` of `ChangesOwn`) | `StoreChangesKeep` | `Stores` |
 //! | a record is written | `TakesPlace`, `MakesFirst`, `PushesOver`, .. | `PlacesPay`, `FirstsPay`, `PushesPay`, .. | `Writes` |
-//! | a row is written | `Lays` of mg_row_writes | `LaysGo`, as steps | `Laying` |
+//! | a row is written, into a table without indexes | `BareLays` of mg_row_writes | `LaysGo`, as steps | `Laying` |
 //! | a table is made | `GetsWanted`, `MakesAtOnce` of mg_table_batch | `GrowthsGo`, `MakingsGo`, as steps | `Making` |
 //! | a number is drawn | `DrawsFrom` of mg_ties | `DrawsKeep` | `Numbers` |
 //! | a commit is asked for | `MarksAll` of mg_pool | `AskingKeeps` | `Fates` |

@@ -51,7 +51,7 @@ pub record IsSoundImage (size : ℕ) (image : Image) : Type 0 where
 -- A history may begin with what a sound image holds: its opening is what the image gives, with the number that no
 -- transaction draws. Two things are asked of the image that its soundness leaves open. The transactions in limbo have
 -- only made rows of the catalog: one that changed a committed row might change a table under those who use it. And each
--- table is plain, since the engine puts no entries into indexes yet, and writes rows of the first format alone.
+-- table is plain, since no table gets an index yet, and rows are written of the first format alone.
 pub record BeginsWith (size : ℕ) (image : Image) (o : Opening) : Type 0 where
   pub opened : Opened
   pub sound : IsOpened packed_form size (page_at size image) opened

@@ -1,5 +1,5 @@
--- Pages whose tables are plain. The engine puts no entries into indexes yet, and writes rows of the first format alone, so
--- this is asked of an image that it opens, and kept by each call. And whoever comes to be committed, a table has the same
+-- Pages whose tables are plain. No table gets an index yet, and rows are written of the first format alone, so this is
+-- asked of an image that is opened, and kept by each call. And whoever comes to be committed, a table has the same
 -- indexes.
 use Rattle.std.specs.Prelude.{◌≡◌, ℕ, Bool, List, [], ◌∷◌}
 use Rattle.mg_base.specs.declared.transaction.TxState.{TxState}

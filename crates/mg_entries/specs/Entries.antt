@@ -20,7 +20,7 @@ use Rattle.mg_value.specs.declared.value.Value.{Value}
 use Rattle.mg_value.specs.declared.value.Value.TheVariants.{Null}
 use Rattle.mg_btree.specs.Changing.{HasNoInventory}
 use Rattle.mg_btree.specs.Inserting.{PutsAndTakes, RefusesInsert}
-use Rattle.mg_row_writes.specs.Changing.{ChangesOwn, FailsOwn, nothing_yet}
+use Rattle.mg_batches.specs.Batches.{ChangesOwn, FailsOwn, nothing_yet}
 
 -- ---- keys
 

@@ -18,7 +18,8 @@ use Rattle.mg_space.specs.View.{KeepsStore, Tells, viewed}
 use Rattle.mg_btree.specs.Changing.{HasNoInventory}
 use Rattle.mg_btree.specs.Inserting.{PutsAndTakes}
 use Rattle.mg_btree.specs.SearchLaws.{viewed_same}
-use Rattle.mg_row_writes.specs.Changing.{ChangesBatch, FailsBatch, not_changed, nothing_yet}
+use Rattle.mg_batches.specs.BatchLaws.{nothing}
+use Rattle.mg_batches.specs.Batches.{ChangesBatch, FailsBatch, not_changed, nothing_yet}
 use Rattle.mg_entries.specs.Entries.{FailsAll, FailsEntry, IsLaying, LaysAll, LaysEntry, PutsEntry}
 
 pub laying_starts : {D : Type 0} (m : Meaning D) (indexes : List Index) (p : RecId) (row : Row) (store : Pool D FireLinks)
@@ -56,9 +57,6 @@ handed_on (Ok x) fault P Q err is holds = absurd cc
 handed_on (Err e) fault P Q err is holds = subst Q (sym is) holds
 
 -- ---- one entry
-
-nothing : (batch : Changed) → batch.pages ≡ [] → batch.orders ≡ [] → batch ≡ nothing_yet
-nothing batch pages orders = λ k. record { pages = pages k; orders = orders k }
 
 -- a batch that was filled is changed, or not
 pub entry_changed : {D : Type 0} (m : Meaning D) (before ready after : Pool D FireLinks) (empty batch : Changed) (root : ℕ)

@@ -8,11 +8,11 @@ ghost use Rattle.mg_sortkey.specs.KeyBytes.{key_bytes as key_bytes_of};
 ghost use Rattle.mg_entries.specs.Entries.{FailsAll, FailsEntry, KeyFits, KeysFit, LaysAll, LaysEntry, value_in};
 
 use mg_base::{Bytes, Disk, Memory, PageNo, RecId};
+use mg_batches::change_batch;
 use mg_btree::insert;
 use mg_model::Index;
 use mg_node::Entry;
 use mg_pool::Batch;
-use mg_row_writes::change_batch;
 use mg_sortkey::key_bytes;
 use mg_space::{SpaceFault, Store};
 use mg_value::{Row, Value};

@@ -11,7 +11,7 @@
 //! Definitions: `specs/Entries`; `EntryLaws` proves what the functions promise.
 //!
 //! Invariant: none, it keeps no state.
-//! Below: `mg_btree`, the trees; `mg_row_writes`, a batch that is changed. Above: the engine, once its tables have indexes.
+//! Below: `mg_btree`, the trees; `mg_batches`, a batch that is changed. Above: the engine, once its tables have indexes.
 //! Not here: which rows are written, and how a record is found by its entries (`mg_lookup`).
 #![tactic(auto)]
 

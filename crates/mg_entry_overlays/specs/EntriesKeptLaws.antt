@@ -34,6 +34,8 @@ use Rattle.mg_image_overlays.specs.Reach.{once_apart, once_back, once_front}
 use Rattle.mg_image_overlays.specs.Rest.{div_grows}
 use Rattle.mg_tree_overlays.specs.BatchLaws.{used_as}
 use Rattle.mg_tree_overlays.specs.TreeBatches.{inventory_of}
+use Rattle.mg_entry_overlays.specs.EnteredLaws as entered
+use Rattle.mg_entry_overlays.specs.WholeOnceLaws.{sequences_still, tips_three, whole_once}
 use Rattle.mg_entry_overlays.specs.EntryBatches.{EntriesOf, IsEntryPlace, LaysEntries}
 use Rattle.mg_entry_overlays.specs.Laws.{EntriesKeep}
 use Rattle.mg_entry_overlays.specs.Retreed.{LeavesTables, Trees, held_pages, retree, retreed, trees_pages}
@@ -50,85 +52,6 @@ HasOwnBits size = (region : ℕ) → inventory_of size (inventory_page size regi
 own_bits : (size : ℕ) → 1 < bits size → HasOwnBits size
 own_bits size most region = ap (inventory_page size) (div-mul-add region (bits size) 1 most)
 
--- ---- the pages of transactions
-
-tips_three : (size : ℕ) (pages : Pages) → HasTransactions size pages → (n : ℕ) → n ≤ last_sequence size pages + 1
-    → (m : ℕ) → Has (tips_below size pages n) m → byte (pages m) 0 ≡ 3
-unfolding tip_checks
-tips_three size pages transactions zero below m is = absurd is
-tips_three size pages transactions (suc n) below m (inl e) = ap (λ (j : ℕ). byte (pages j) 0) e
-    ∙ kind_of (pages (tip_page size pages n)) (tip_page size pages n) 3 0 n _
-    (transactions.each n (omega (arith, below))).fields
-tips_three size pages transactions (suc n) below m (inr more) =
-    tips_three size pages transactions n (omega (arith, below)) m more
-
--- ---- no page stands twice
-
-module _ (form : Form) (none : HasNoSequences form) (size : ℕ) (state : ℕ → TxState) (old new : Pages) (layout : Layout)
-    (r : Reading) (sound : IsSoundBy form size state old layout r) (keeps : LeavesTables size old new layout)
-    (first : Trees) (more : List Trees)
-    (trees : EachStand (λ s. AreTrees size new s.table.pointer.0 s.table.indexes s.trees)
-    (stands_of (retreed layout first more)))
-    (trees_once : IsOnce (trees_pages (stands_of (retreed layout first more)))) where
-  no_sequence : (ns : List ℕ) → EachPage (λ n. form.sequence_page (old n) n) ns → (m : ℕ) → Has ns m → ⊥
-  no_sequence [] each m is = is
-  no_sequence (n ∷ ns) each m is = none (old n) n each.0
-
-  pub sequences_still : (ns : List ℕ) → EachPage (λ n. form.sequence_page (old n) n) ns
-      → EachPage (λ n. form.sequence_page (new n) n) ns
-  sequences_still [] each = tt
-  sequences_still (n ∷ ns) each = absurd (none (old n) n each.0)
-
-  stands_once : IsOnce (flat_map pages_of (stands_of layout))
-  stands_once = once_back (tips_of size old) (flat_map pages_of (stands_of layout))
-      (once_front (tips_of size old ++ flat_map pages_of (stands_of layout)) layout.sequences sound.once)
-
-  held_is : held_pages (stands_of (retreed layout first more)) ≡ held_pages (stands_of layout)
-  held_is = held_same (stands_of layout) (first ∷ more)
-
-  to_held : (m : ℕ) → Has (held_pages (stands_of (retreed layout first more))) m → Has (held_pages (stands_of layout)) m
-  to_held m is = subst (λ (ns : List ℕ). Has ns m) held_is is
-
-  tree_new : (m : ℕ) → Has (trees_pages (stands_of (retreed layout first more))) m → byte (new m) 0 ≡ 7
-  tree_new m is = trees_kind form.in_primary size new (stands_of (retreed layout first more)) trees m is
-
-  kinds_apart : (m : ℕ) → Has (held_pages (stands_of (retreed layout first more))) m
-      → Has (trees_pages (stands_of (retreed layout first more))) m → ⊥
-  kinds_apart m here there = at (held_kind form.in_primary size old (stands_of layout) sound.tables m (to_held m here))
-    where
-      stays : byte (new m) 0 ≡ byte (old m) 0
-      stays = ap (λ (page : List ℕ). byte page 0) (keeps.tables m (to_held m here))
-
-      at : (byte (old m) 0 ≡ 4) ⊎ (byte (old m) 0 ≡ 5) → ⊥
-      at (inl four) = let seven = tree_new m there in let same = stays in omega (arith, four, seven, same)
-      at (inr five) = let seven = tree_new m there in let same = stays in omega (arith, five, seven, same)
-
-  pages_once : IsOnce (flat_map pages_of (stands_of (retreed layout first more)))
-  pages_once = both_once (stands_of (retreed layout first more))
-      (subst (λ (ns : List ℕ). IsOnce ns) (sym held_is) (held_once (stands_of layout) stands_once)) trees_once kinds_apart
-
-  tips_apart : (m : ℕ) → Has (tips_of size old) m → Has (flat_map pages_of (stands_of (retreed layout first more))) m → ⊥
-  tips_apart m tip is = at (pages_either (stands_of (retreed layout first more)) m is)
-    where
-      at : Has (held_pages (stands_of (retreed layout first more))) m
-          ⊎ Has (trees_pages (stands_of (retreed layout first more))) m → ⊥
-      at (inl held) = once_apart (tips_of size old) (flat_map pages_of (stands_of layout)) m
-          (once_front (tips_of size old ++ flat_map pages_of (stands_of layout)) layout.sequences sound.once) tip
-          (held_in (stands_of layout) m (to_held m held))
-      at (inr tree) =
-          let three = tips_three size old sound.transactions (last_sequence size old + 1) (omega arith) m tip in
-          let same : byte (new m) 0 ≡ byte (old m) 0 = ap (λ (page : List ℕ). byte page 0) (keeps.tips m tip) in
-          let seven = tree_new m tree in omega (arith, three, same, seven)
-
-  pub whole_once : IsOnce (tips_of size old ++ flat_map pages_of (stands_of (retreed layout first more))
-      ++ layout.sequences)
-  whole_once = once_both (tips_of size old ++ flat_map pages_of (stands_of (retreed layout first more))) layout.sequences
-      (once_both (tips_of size old) (flat_map pages_of (stands_of (retreed layout first more)))
-      (once_front (tips_of size old) (flat_map pages_of (stands_of layout))
-      (once_front (tips_of size old ++ flat_map pages_of (stands_of layout)) layout.sequences sound.once)) pages_once tips_apart)
-      (once_back (tips_of size old ++ flat_map pages_of (stands_of layout)) layout.sequences sound.once)
-      (λ m here there. no_sequence layout.sequences sound.sequences m there)
-
 -- ---- what the batch leaves
 
 module _ (form : Form) (none : HasNoSequences form) (size : ℕ) (own : HasOwnBits size) (o : Opening) (h : Entries)
@@ -140,28 +63,7 @@ module _ (form : Form) (none : HasNoSequences form) (size : ℕ) (own : HasOwnBi
 
   -- a page that is linked is none of those that change
   no_place : (m : ℕ) → is_used size pool m ≡ true → 3 ≤ byte (pool m) 0 → byte (pool m) 0 ≢ 7 → IsEntryPlace size pool m → ⊥
-  no_place m used least other (inl (region, same, below)) = at (kept.pool_sound.inventory region below)
-    where
-      at : HasRegion size pool (inventory_page size region) region → ⊥
-      at (inl empty) =
-          let zero_ : byte (pool m) 0 ≡ 0 = ap (λ (k : ℕ). byte (pool k) 0) same
-          ∙ (ap (λ (page : List ℕ). byte page 0) empty ∙ byte_blank size) in
-          omega (arith, zero_, least)
-      at (inr wanted) =
-          let two : byte (pool m) 0 ≡ 2 = ap (λ (k : ℕ). byte (pool k) 0) same
-          ∙ kind_of (pool (inventory_page size region)) (inventory_page size region) 2 0 region []
-          (all_passes (pip_checks (pool (inventory_page size region)) (inventory_page size region) region) wanted.fields) in
-          omega (arith, two, least)
-  no_place m used least other (inr (inl seven)) = other seven
-  no_place m used least other (inr (inr unused)) = let both_ : true ≡ false = sym used ∙ unused in absurd cc
-
-  -- of the pool
-  pool_same : (m : ℕ) → (IsEntryPlace size pool m → ⊥) → changed m ≡ pool m
-  pool_same m off = at (is.only m)
-    where
-      at : (changed m ≡ pool m) ⊎ IsEntryPlace size pool m → changed m ≡ pool m
-      at (inl same) = same
-      at (inr place) = absurd (off place)
+  no_place = entered.no_place form none size state pool changed batch orders is kept.of_pool kept.in_pool kept.pool_sound
 
   -- a page of the image has its new content, or its old one
   each_page : (m : ℕ) → ((last m ≡ changed m) × (image m ≡ pool m)) ⊎ (last m ≡ image m)
@@ -234,44 +136,18 @@ module _ (form : Form) (none : HasNoSequences form) (size : ℕ) (own : HasOwnBi
 
   -- ---- the tables stay
 
-  -- page 0 is the header's
   header_off : (pages : Pages) → byte (pages 0) 0 ≡ 1 → byte (pool 0) 0 ≡ byte (pages 0) 0 → is_used size pool 0 ≡ true
       → IsEntryPlace size pool 0 → ⊥
-  header_off pages one same used (inl (region, zero_, below)) = omega (arith, zero_)
-  header_off pages one same used (inr (inl seven)) = omega (arith, one, same, seven)
-  header_off pages one same used (inr (inr unused)) = let both_ : true ≡ false = sym used ∙ unused in absurd cc
+  header_off = entered.header_off form none size state pool changed batch orders is kept.of_pool kept.in_pool
+      kept.pool_sound
 
   header_kind : (pages : Pages) (a : Layout) (r : Reading) → IsSoundBy form size state pages a r → byte (pages 0) 0 ≡ 1
-  header_kind pages a r sound = kind_of (pages 0) 0 1 0 0 _ sound.header.fields
+  header_kind = entered.header_kind form none size state pool changed batch orders is kept.of_pool kept.in_pool
+      kept.pool_sound
 
   pool_leaves : LeavesTables size pool changed kept.of_pool
-  pool_leaves = record {
-    header_page = pool_same 0 (header_off pool (header_kind pool kept.of_pool kept.in_pool kept.pool_sound) refl
-        kept.pool_sound.header.used);
-    tips = λ m tip. pool_same m (no_place m (linked m (tip_linked m tip)).used (linked m (tip_linked m tip)).kind
-        (λ seven. let three = tips_three size pool kept.pool_sound.transactions (last_sequence size pool + 1)
-        (omega arith) m tip in omega (arith, three, seven)));
-    tables = λ m held. pool_same m (no_place m (linked m (held_linked m held)).used (linked m (held_linked m held)).kind
-        (λ seven. by m seven (held_kind form.in_primary size pool (stands_of kept.of_pool) kept.pool_sound.tables m held)));
-    used = is.used;
-    lengths = is.lengths;
-    inventory = is.inventory;
-  }
-    where
-      linked : (m : ℕ) → Has (linked_pages size pool kept.of_pool) m → IsLinked size pool (pointers_of (stands_of kept.of_pool)) m
-      linked = linked_is form size state pool kept.of_pool kept.in_pool none kept.pool_sound
-
-      tip_linked : (m : ℕ) → Has (tips_of size pool) m → Has (linked_pages size pool kept.of_pool) m
-      tip_linked m tip = has_front (tips_of size pool ++ flat_map pages_of (stands_of kept.of_pool)) kept.of_pool.sequences m
-          (has_front (tips_of size pool) (flat_map pages_of (stands_of kept.of_pool)) m tip)
-
-      held_linked : (m : ℕ) → Has (held_pages (stands_of kept.of_pool)) m → Has (linked_pages size pool kept.of_pool) m
-      held_linked m held = has_front (tips_of size pool ++ flat_map pages_of (stands_of kept.of_pool)) kept.of_pool.sequences m
-          (has_back (tips_of size pool) (flat_map pages_of (stands_of kept.of_pool)) m (held_in (stands_of kept.of_pool) m held))
-
-      by : (m : ℕ) → byte (pool m) 0 ≡ 7 → (byte (pool m) 0 ≡ 4) ⊎ (byte (pool m) 0 ≡ 5) → ⊥
-      by m seven (inl four) = omega (arith, seven, four)
-      by m seven (inr five) = omega (arith, seven, five)
+  pool_leaves = entered.pool_leaves form none size state pool changed batch orders is kept.of_pool kept.in_pool
+      kept.pool_sound
 
   image_leaves : LeavesTables size image last kept.layout
   image_leaves = record {

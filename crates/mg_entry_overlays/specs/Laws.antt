@@ -16,6 +16,7 @@ use Rattle.mg_image.specs.Records.{Reading}
 use Rattle.mg_image.specs.Sound.{IsSoundBy}
 use Rattle.mg_image.specs.Tables.{EachStand, IsOnce, Layout, pages_of, stands_of, table_at}
 use Rattle.mg_image_overlays.specs.KeptImages.{keeping}
+use Rattle.mg_entry_overlays.specs.Entered.{ShowsEntries}
 use Rattle.mg_entry_overlays.specs.EntryBatches.{LaysEntries}
 use Rattle.mg_entry_overlays.specs.Retreed.{LeavesTables, Trees, retreed}
 
@@ -26,6 +27,12 @@ EntriesKeep form = (size : ℕ) (o : Opening) (h : Entries) (state : ℕ → TxS
     (batch : ℕ → Option (List ℕ)) (orders : Orders) → 1 < bits size
     → ((chosen : ℕ → Bool) → LaysEntries form size (left_state chosen state) pool changed batch orders)
     → KeepsLaidAlways (keeping form size o h) (keeping form size o h) state pool changed batch orders
+
+-- After a batch that lays entries a sound image is sound with other trees, and shows and finds what it did.
+abbrev pub EntriesShow : Form → Type 0
+EntriesShow form = (size : ℕ) (state : ℕ → TxState) (pool changed : Pages) (batch : ℕ → Option (List ℕ))
+    (orders : Orders) → LaysEntries form size state pool changed batch orders → (a : Layout) (r : Reading)
+    → IsSoundBy form size state pool a r → ShowsEntries form size state pool changed a r
 
 -- A sound image whose tables stay is sound with other index trees, where these stand in it, find of each record what
 -- was found, and no page is linked twice.

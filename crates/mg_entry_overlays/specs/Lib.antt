@@ -1,9 +1,12 @@
 pub mod Retreed
 pub mod EntryBatches
+pub mod Entered
 pub mod Laws
 pub mod RetreedLaws
 pub mod TreesSoundLaws
 pub mod TreesKeptLaws
 pub mod StandsOnceLaws
+pub mod WholeOnceLaws
+pub mod EnteredLaws
 pub mod EntriesKeptLaws
 pub mod GrownOnceLaws

@@ -17,6 +17,7 @@ use Rattle.mg_model.specs.declared.table.Table.{Table}
 use Rattle.mg_tree_overlays.specs.BatchLaws.{batch_kept}
 use Rattle.mg_tree_overlays.specs.PoolLaws.{pool_changed}
 use Rattle.mg_tree_overlays.specs.TreeBatches.{Add, EntryChange, IsLeft, Remove, Stay}
+use Rattle.mg_entry_overlays.specs.Entered.{KeepsRoots}
 use Rattle.mg_entry_overlays.specs.EntryBatches.{LeavesAll, StandsChange, TreesChange}
 use Rattle.mg_entry_overlays.specs.Retreed.{Trees, retree}
 
@@ -38,6 +39,7 @@ pub record TreesKept (size : ℕ) (pool changed image last : Pages) (owner : ℕ
   pub behind : EachBehind changed last ends now
   pub found : FindsOn image last indexes
   pub found_pool : FindsOn pool changed indexes
+  pub roots_pool : KeepsRoots pool changed indexes
 
 module _ (size : ℕ) (batch : ℕ → Option (List ℕ)) (orders : Orders) (pool changed : Pages) (set_ : PageSet) (image : Pages)
     (lays : LaysBatch pool changed batch orders set_ image) where
@@ -53,6 +55,7 @@ module _ (size : ℕ) (batch : ℕ → Option (List ℕ)) (orders : Orders) (poo
     behind = tt;
     found = λ p row f. tt;
     found_pool = λ p row f. tt;
+    roots_pool = tt;
   }
   trees_kept owner [] [] [] (e ∷ es) are its behind rows = absurd rows
   trees_kept owner [] [] (m ∷ ms) ends are its behind rows = absurd its
@@ -78,6 +81,10 @@ module _ (size : ℕ) (batch : ℕ → Option (List ℕ)) (orders : Orders) (poo
           last.keeps (index_entry i p row) (all_left rows.0.change rows.0.all (index_entry i p row)) f.0,
           rest.found_pool p row f.1,
         );
+        roots_pool = (
+          (λ f found. last.keeps f (all_left rows.0.change rows.0.all f) found),
+          rest.roots_pool,
+        );
       }
 
   abbrev FindsOnAll : Pages → Pages → List Stand → Type 0
@@ -92,6 +99,7 @@ module _ (size : ℕ) (batch : ℕ → Option (List ℕ)) (orders : Orders) (poo
     pub behind : StandsBehind changed (laid batch set_ image) (retree ps ends) (retree is now)
     pub found : FindsOnAll image (laid batch set_ image) is
     pub found_pool : FindsOnAll pool changed ps
+    pub roots_pool : EachStand (λ s. KeepsRoots pool changed s.table.indexes) ps
 
   one_more : (old new : Pages) (s : Stand) (ss : List Stand) → FindsOn old new s.table.indexes
       → FindsOnAll old new ss → FindsOnAll old new (s ∷ ss)
@@ -114,6 +122,7 @@ module _ (size : ℕ) (batch : ℕ → Option (List ℕ)) (orders : Orders) (poo
     behind = tt;
     found = λ table p row is found. absurd cc;
     found_pool = λ table p row is found. absurd cc;
+    roots_pool = tt;
   }
   stands_kept in_primary [] (i ∷ is) ends fronts pool_has has_ behind rows = absurd behind
   stands_kept in_primary (p ∷ ps) [] ends fronts pool_has has_ behind rows = absurd behind
@@ -134,4 +143,5 @@ module _ (size : ℕ) (batch : ℕ → Option (List ℕ)) (orders : Orders) (poo
         found = one_more image (laid batch set_ image) i is
             (subst (λ (t : Table). FindsOn image (laid batch set_ image) t.indexes) (sym same) kept.found) rest.found;
         found_pool = one_more pool changed p ps kept.found_pool rest.found_pool;
+        roots_pool = (kept.roots_pool, rest.roots_pool);
       }

@@ -109,7 +109,7 @@ module _ (form : Form) (size : ℕ) (state : ℕ → TxState) (old new : Pages) 
     stands_kept ss ts (λ m is. same m (has_back (s.pointers ++ s.data_pages) (held_pages ss) m is)) trees.1 has_.1,
   )
 
-  page_there : (stands : List Stand) (n : ℕ) (table : Table) → table_at stands n ≡ Some table
+  pub page_there : (stands : List Stand) (n : ℕ) (table : Table) → table_at stands n ≡ Some table
       → Has (held_pages stands) n
   page_there [] n table is = absurd cc
   page_there (s ∷ ss) n table is = at (has s.data_pages n) refl is (page_there ss n table)

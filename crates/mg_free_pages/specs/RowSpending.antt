@@ -1,12 +1,13 @@
--- A row that is written takes four pages at most: two for its place, two for its version.
+-- A row that is written into a table without indexes takes four pages at most: two for its place, two for its version.
 use Rattle.std.proofs.Common.{◌≤◌, ◌+◌, ℕ, sym, subst, arith}
 use Rattle.mg_base.specs.Disk.{Meaning}
 use Rattle.mg_base.specs.declared.geometry.Geometry.{Geometry}
 use Rattle.mg_base.specs.declared.numbers.RecId.{RecId}
 use Rattle.mg_pool.specs.Pool.{shown}
 use Rattle.mg_pool.specs.declared.pool.Pool.{Pool}
-use Rattle.mg_row_writes.specs.Changing.{MakesFirst, PushesOver, ReplacesNewest, TakesNewestOut, TakesPlace, nothing_yet}
-use Rattle.mg_row_writes.specs.Laying.{FailsLay, Lays, no_first, no_place, not_cleared, not_pushed}
+use Rattle.mg_batches.specs.Batches.{nothing_yet}
+use Rattle.mg_row_writes.specs.Changing.{MakesFirst, PushesOver, ReplacesNewest, TakesNewestOut, TakesPlace}
+use Rattle.mg_row_writes.specs.Bare.{BareFails, BareLays, no_first_there, no_place_there, not_out, not_over}
 use Rattle.mg_row_writes.specs.declared.before.Way.{Way}
 use Rattle.mg_row_writes.specs.declared.before.Way.TheVariants as ways
 use Rattle.mg_space.specs.Taking.{IsGeometry}
@@ -64,7 +65,7 @@ module _ {D : Type 0} (m : Meaning D) (holds : ToldAreHeld m) (laws : BatchLaws 
   -- ---- a version is laid
 
   pub lay_spends : (before after : Pool D FireLinks) (owner : ℕ) (way : Way) (v : Version)
-      → Lays m before after owner way v → SpendsAtMost m before after 4
+      → BareLays m before after owner way v → SpendsAtMost m before after 4
   lay_spends before after owner ways.Make v it = both_spend m holds before it.placed after 2 2
       (place_spends before it.placed owner it.at it.takes) (first_spends it.placed after owner it.at v it.makes)
   lay_spends before after owner (ways.Push rec) v it = more_spent m before after 2 4 (omega arith)
@@ -78,17 +79,17 @@ module _ {D : Type 0} (m : Meaning D) (holds : ToldAreHeld m) (laws : BatchLaws 
   -- ---- it is not
 
   pub failed_lay_spends : (before after : Pool D FireLinks) (owner : ℕ) (way : Way) (v : Version)
-      (fault : SpaceFault) → FailsLay m before after owner way v fault → SpendsAtMost m before after 4
-  failed_lay_spends before after owner ways.Make v fault (no_place fails) = more_spent m before after 0 4 (omega arith)
+      (fault : SpaceFault) → BareFails m before after owner way v fault → SpendsAtMost m before after 4
+  failed_lay_spends before after owner ways.Make v fault (no_place_there fails) = more_spent m before after 0 4 (omega arith)
       (failing_spends m holds before after _ _ fault fails)
-  failed_lay_spends before after owner ways.Make v fault (no_first at placed takes fails) =
+  failed_lay_spends before after owner ways.Make v fault (no_first_there at placed takes fails) =
       more_spent m before after 2 4 (omega arith) (both_spend m holds before placed after 2 0
       (place_spends before placed owner at takes) (failing_spends m holds placed after _ _ fault fails))
   failed_lay_spends before after owner (ways.Push rec) v fault fails = more_spent m before after 0 4 (omega arith)
       (failing_spends m holds before after _ _ fault fails)
-  failed_lay_spends before after owner (ways.PushOverDead rec) v fault (not_cleared fails) =
+  failed_lay_spends before after owner (ways.PushOverDead rec) v fault (not_out fails) =
       more_spent m before after 0 4 (omega arith) (failing_spends m holds before after _ _ fault fails)
-  failed_lay_spends before after owner (ways.PushOverDead rec) v fault (not_pushed cleared takes fails) =
+  failed_lay_spends before after owner (ways.PushOverDead rec) v fault (not_over cleared takes fails) =
       more_spent m before after 0 4 (omega arith) (both_spend m holds before cleared after 0 0
       (out_spends before cleared rec takes) (failing_spends m holds cleared after _ _ fault fails))
   failed_lay_spends before after owner (ways.Replace rec) v fault fails = more_spent m before after 0 4 (omega arith)
@@ -113,20 +114,20 @@ module _ {D : Type 0} (m : Meaning D) (holds : ToldAreHeld m) (laws : BatchLaws 
       (took.left regions most has))
 
   pub lay_short : (before after : Pool D FireLinks) (owner : ℕ) (way : Way) (v : Version) (fault : SpaceFault)
-      → FailsLay m before after owner way v fault → IsNotShort m before 4 fault
-  lay_short before after owner ways.Make v fault (no_place fails) = more_short before 2 4 fault (omega arith)
+      → BareFails m before after owner way v fault → IsNotShort m before 4 fault
+  lay_short before after owner ways.Make v fault (no_place_there fails) = more_short before 2 4 fault (omega arith)
       (failing_short m before after _ _ 2 fault (λ image why. laws.spot_there before after image nothing_yet owner fault why) fails)
-  lay_short before after owner ways.Make v fault (no_first at placed takes fails) = later_short before placed 2 2 fault
+  lay_short before after owner ways.Make v fault (no_first_there at placed takes fails) = later_short before placed 2 2 fault
       (place_spends before placed owner at takes)
       (failing_short m placed after _ _ 2 fault
       (λ image why. laws.making_there placed after image nothing_yet owner at v fault why) fails)
   lay_short before after owner (ways.Push rec) v fault fails = more_short before 2 4 fault (omega arith)
       (failing_short m before after _ _ 2 fault
       (λ image why. laws.push_there before after image nothing_yet rec v fault why) fails)
-  lay_short before after owner (ways.PushOverDead rec) v fault (not_cleared fails) =
+  lay_short before after owner (ways.PushOverDead rec) v fault (not_out fails) =
       more_short before 0 4 fault (omega arith) (failing_short m before after _ _ 0 fault
       (λ image why. laws.out_there before after image nothing_yet rec fault why) fails)
-  lay_short before after owner (ways.PushOverDead rec) v fault (not_pushed cleared takes fails) =
+  lay_short before after owner (ways.PushOverDead rec) v fault (not_over cleared takes fails) =
       more_short before 2 4 fault (omega arith) (later_short before cleared 0 2 fault
       (out_spends before cleared rec takes) (failing_short m cleared after _ _ 2 fault
       (λ image why. laws.push_there cleared after image nothing_yet rec v fault why) fails))

@@ -174,7 +174,7 @@ no_region size pages region inventory is = at (inventory region is.below)
         region) wanted.fields) in
         let seven = is.kind in omega (arith, two, seven)
 
-tree_inventory : (size : ℕ) (pages : Pages) (t : IndexTree) → HasInventory size pages
+pub tree_inventory : (size : ℕ) (pages : Pages) (t : IndexTree) → HasInventory size pages
     → IsIndexTree size pages t → HasNoInventory size t.levels
 tree_inventory size pages t inventory tree n placed m same =
     no_region size pages (m / bits size) inventory

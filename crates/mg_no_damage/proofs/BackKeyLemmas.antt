@@ -70,7 +70,8 @@ use Rattle.mg_records.specs.Writing.{FitsShape, IsOfColumn}
 use Rattle.mg_records.specs.declared.write.Write.{Write}
 use Rattle.mg_records.specs.declared.write.Write.TheVariants as writes
 use Rattle.mg_row_writes.specs.Storing.{IsStored, MayBeStored}
-use Rattle.mg_row_writes.specs.Changing.{FailsOwn, FailsReplacing, FailsTakingOut, not_changed, not_filled}
+use Rattle.mg_batches.specs.Batches.{FailsOwn, not_changed, not_filled}
+use Rattle.mg_row_writes.specs.Changing.{FailsReplacing, FailsTakingOut}
 use Rattle.mg_seek.specs.Histories.{HasSpeaker, SpeakersStand, told_versions, versions_spoken}
 use Rattle.mg_seek.specs.Readings.{PlacesOfReadings}
 use Rattle.mg_seek.specs.Speaking.{IsSpeaker, RefusesTableRows}

@@ -29,7 +29,7 @@ use Rattle.mg_pointer.specs.PointerPage.{next_in}
 use Rattle.mg_pool.specs.Dirty.{DirtyPages}
 use Rattle.mg_pool.specs.Pool.{shown}
 use Rattle.mg_pool.specs.declared.pool.Pool.{Pool}
-use Rattle.mg_row_writes.specs.Changing.{not_changed, not_filled, nothing_yet}
+use Rattle.mg_batches.specs.Batches.{not_changed, not_filled, nothing_yet}
 use Rattle.mg_seek.specs.Readings.{PlacesOfReadings, placed_if}
 use Rattle.mg_seek.specs.Speaking.{IsSpeaker, RefusesTableRows}
 use Rattle.mg_seek.specs.TableRecords.{IsAmong}

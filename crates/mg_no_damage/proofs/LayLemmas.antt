@@ -1,5 +1,5 @@
--- An engine that has read all that a write asks for lays the version without damage: its pages show a sound image, and
--- so do those that the first batch of two leaves.
+-- An engine that has read all that a write asks for lays the version without damage, where the table has no index: its
+-- pages show a sound image, and so do those that the first batch of two leaves.
 use Rattle.mg_engine_meaning.specs.DirectoryLaws.{knows_key}
 use Rattle.mg_base.specs.Disk.{Meaning}
 use Rattle.mg_base.specs.Image.{Image}
@@ -53,7 +53,7 @@ use Rattle.mg_records.specs.declared.write.Write.{Write}
 use Rattle.mg_row_writes.specs.Befores.{IsBefore}
 use Rattle.mg_row_writes.specs.Changing.{FailsFirst, FailsOver, FailsPlace, FailsReplacing, FailsTakingOut, TakesNewestOut, TakesPlace}
 use Rattle.mg_row_writes.specs.Finding.{IsInWay}
-use Rattle.mg_row_writes.specs.Laying.{FailsLay, no_first, no_place, not_cleared, not_pushed}
+use Rattle.mg_row_writes.specs.Bare.{BareFails, no_first_there, no_place_there, not_out, not_over}
 use Rattle.mg_row_writes.specs.Storing.{MayBeStored, row_stored, written_at}
 use Rattle.mg_row_writes.specs.declared.before.Before.{Before}
 use Rattle.mg_row_writes.specs.declared.before.Way.TheVariants as ways
@@ -364,10 +364,10 @@ module _ {D P : Type 0} (m : Meaning D) (places : Places P) (parts : WriteParts 
     -- ---- on its way
 
     pub laid : (way : Way) → before.way ≡ way
-        → FailsLay m read.store new table.pointer.0 way version (space.Damaged it) → ⊥
-    laid ways.Make is (no_place own) = places_taken own
-    laid ways.Make is (no_first at placed takes own) = firsts is placed at takes own
+        → BareFails m read.store new table.pointer.0 way version (space.Damaged it) → ⊥
+    laid ways.Make is (no_place_there own) = places_taken own
+    laid ways.Make is (no_first_there at placed takes own) = firsts is placed at takes own
     laid (ways.Push rec) is own = pushes rec is own
-    laid (ways.PushOverDead rec) is (not_cleared own) = outs rec is own
-    laid (ways.PushOverDead rec) is (not_pushed placed takes own) = overs rec is placed takes own
+    laid (ways.PushOverDead rec) is (not_out own) = outs rec is own
+    laid (ways.PushOverDead rec) is (not_over placed takes own) = overs rec is placed takes own
     laid (ways.Replace rec) is own = replaces rec is own

@@ -15,7 +15,8 @@ use Rattle.mg_pool.specs.declared.fault.PoolFault.TheVariants as faults
 use Rattle.mg_pool.specs.declared.pool.Pool.{Pool}
 use Rattle.mg_records.specs.Writing.{FitsShape}
 use Rattle.mg_records.specs.declared.write.Write.{Write}
-use Rattle.mg_row_writes.specs.Laying.{FailsLay, no_first, no_place, not_cleared, not_pushed}
+use Rattle.mg_row_writes.specs.Bare.{BareFails, IsBare, no_first_there, no_place_there, not_out, not_over}
+use Rattle.mg_row_writes.specs.BareLaws.{bare_fails, bare_keys}
 use Rattle.mg_row_writes.specs.Storing.{row_stored, written_at}
 use Rattle.mg_row_writes.specs.declared.before.Before.{Before}
 use Rattle.mg_row_writes.specs.declared.before.Way.{Way}
@@ -29,10 +30,11 @@ use Rattle.mg_version.specs.declared.cell.Version.{Version}
 use Rattle.mg_works.specs.Works.{given_to}
 use Rattle.mg_core.specs.declared.parts.Core.{Core}
 use Rattle.mg_core.specs.Cores.{Continues, IsCore}
-use Rattle.mg_core.specs.Putting.{FailsKept, FailsPut, no_before, no_lay, no_version, not_kept, not_laid, too_long}
+use Rattle.mg_core.specs.Putting.{FailsKept, FailsPut, key_too_long, no_before, no_lay, no_version, not_kept, not_laid, too_long}
 use Rattle.mg_core.specs.Refusing.{CountsFault}
 use Rattle.mg_core.specs.Writing.{FailsWrite, IsFree, Writes, at_record, at_row, at_table, no_key, not_begun, not_put, only_reads, KnowsKey}
 use Rattle.mg_no_damage.specs.CoreReads.{BeforesAreRead, KeysAreNamed, RecordsArePassed, RowsAreFound, ShowsTable, TablesArePassed}
+use Rattle.mg_engine_changes.specs.BareTables.{given_bare}
 use Rattle.mg_engine_changes.specs.KeptTables.{NotedTablesAreKept, NotedWorksStay, NotesStay}
 use Rattle.mg_engine_changes.specs.Laid.{HasNoted}
 use Rattle.mg_engine_changes.specs.NotedLaws.{noted_core, noted_given, table_noted}
@@ -54,12 +56,12 @@ use Rattle.mg_no_damage.proofs.WriteParts.{WriteParts}
 -- ---- a batch is refused by no absent page
 
 lay_there : {D : Type 0} (m : Meaning D) (a b : Pool D FireLinks) (owner : ℕ) (way : Way) (v : Version) (n : ℕ)
-    → FailsLay m a b owner way v (space.Pool (faults.Absent n)) → ⊥
-lay_there m a b owner ways.Make v n (no_place own) = own_there m a b _ _ n own
-lay_there m a b owner ways.Make v n (no_first at placed takes own) = own_there m placed b _ _ n own
+    → BareFails m a b owner way v (space.Pool (faults.Absent n)) → ⊥
+lay_there m a b owner ways.Make v n (no_place_there own) = own_there m a b _ _ n own
+lay_there m a b owner ways.Make v n (no_first_there at placed takes own) = own_there m placed b _ _ n own
 lay_there m a b owner (ways.Push rec) v n own = own_there m a b _ _ n own
-lay_there m a b owner (ways.PushOverDead rec) v n (not_cleared own) = own_there m a b _ _ n own
-lay_there m a b owner (ways.PushOverDead rec) v n (not_pushed placed takes own) = own_there m placed b _ _ n own
+lay_there m a b owner (ways.PushOverDead rec) v n (not_out own) = own_there m a b _ _ n own
+lay_there m a b owner (ways.PushOverDead rec) v n (not_over placed takes own) = own_there m placed b _ _ n own
 lay_there m a b owner (ways.Replace rec) v n own = own_there m a b _ _ n own
 
 -- ---- the laws on what is read
@@ -106,17 +108,25 @@ module _ {D P : Type 0} (m : Meaning D) (places : Places P) (parts : WriteParts 
     known = knows_key m old o h stands.numbers stands.tables shows parts.dirs.walked table there parts.dirs.speakers
         (written_at table write)
 
+  -- its table has no index
+  bare : Continues old t.0 → IsBare table
+  bare continues = given_bare m old o h stands continues.0 t.0 continues.1 table given
+
   -- the version is not laid
   kept_stands : (read : Core D) (before : Before) (v : Version) (refusal : Refusal)
       → IsReady m old read t table write before v
-      → FailsKept m read new t.0 table.pointer.0 (written_at table write) before v refusal
+      → FailsKept m read new t.0 table write (written_at table write) before v refusal
       → new.damage ≡ read.damage
   kept_stands read before v refusal ready (too_long never counts) = absurd (never (may_store m places parts old t table
       write core given noted fits storable o h read before v ready stands))
+  kept_stands read before v refusal ready (key_too_long never counts) = absurd (never (bare_keys m table
+      (bare ready.is_free.has_found.has_passed.has_begun.continues) read.store.geometry.size write))
   kept_stands read before v refusal ready (not_kept may told_) = ap count told_.1
-  kept_stands read before v refusal ready (not_laid fails) = at fails.fault fails.fails fails.counts
+  kept_stands read before v refusal ready (not_laid fails) = at fails.fault (bare_fails m table
+      (bare ready.is_free.has_found.has_passed.has_begun.continues) read.store new.store before.way write v fails.fault
+      fails.fails) fails.counts
     where
-      at : (fault : SpaceFault) → FailsLay m read.store new.store table.pointer.0 before.way v fault
+      at : (fault : SpaceFault) → BareFails m read.store new.store table.pointer.0 before.way v fault
           → CountsFault fault read.damage new.damage read.shortages new.shortages → new.damage ≡ read.damage
       at (space.Full limit) lay counts = counts.0
       at (space.Damaged it) lay counts = absurd (laid m places parts old t table write core given noted fits storable o

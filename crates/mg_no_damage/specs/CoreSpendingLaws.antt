@@ -1,13 +1,14 @@
 -- A row is written, or is not: at most four pages are taken.
 use Rattle.std.proofs.Common.{◌≡◌, ◌∙◌, inl, inr, ◌+◌, ℕ, Bool, List, Option, Some, None, Err, is_some, refl, sym, ap, subst, arith}
 use Rattle.mg_base.specs.Disk.{Meaning}
+use Rattle.mg_base.specs.declared.transaction.TxState.TheVariants.{Active}
 use Rattle.mg_base.specs.declared.numbers.RecId.{RecId}
 use Rattle.mg_base.specs.declared.numbers.TxNo.{TxNo}
 use Rattle.mg_base.specs.declared.transaction.TxState.{TxState}
 use Rattle.mg_core.specs.declared.parts.Core.{Core}
 use Rattle.mg_core.specs.Cores.{IsCore, IsRefusedBy}
 use Rattle.mg_core.specs.Obstacles.{HindersBy, IsTold, Stops, StopsAtTable, TellsVerdict, hindered, unread}
-use Rattle.mg_core.specs.Putting.{CountsOne, FailsKept, FailsPut, no_before, no_lay, no_version, not_kept, not_laid, too_long}
+use Rattle.mg_core.specs.Putting.{CountsOne, FailsKept, FailsPut, key_too_long, no_before, no_lay, no_version, not_kept, not_laid, too_long}
 use Rattle.mg_core.specs.Reading.{FailsReading, OnlyReads}
 use Rattle.mg_core.specs.Refusing.{IsRefusal}
 use Rattle.mg_core.specs.Writing.{FailsKey, FailsRow, FailsWrite, IsFree, IsWrong, Writes, at_record, at_row, at_table, key_memory, key_null, no_key, not_begun, not_put, only_reads, row_unread, row_wrong}
@@ -23,7 +24,7 @@ use Rattle.mg_pool.specs.declared.fault.PoolFault.TheVariants as faults
 use Rattle.mg_pool.specs.declared.pool.Pool.{Pool}
 use Rattle.mg_records.specs.declared.write.Write.{Write}
 use Rattle.mg_records.specs.declared.write.Write.TheVariants as writes
-use Rattle.mg_row_writes.specs.Changing.{not_lawful}
+use Rattle.mg_batches.specs.Batches.{not_lawful}
 use Rattle.mg_row_writes.specs.declared.before.Before.{Before}
 use Rattle.mg_seek.specs.declared.views.Obstacle.{Obstacle}
 use Rattle.mg_row_writes.specs.Storing.{written_at}
@@ -42,6 +43,8 @@ use Rattle.mg_space.specs.FreePages.{HasRegions}
 use Rattle.mg_space.specs.FreePages.{HasFree}
 use Rattle.mg_free_pages.specs.FreeLaws.{fewer}
 use Rattle.mg_no_damage.specs.CoreSpending.{IsNoWant, TakesPages}
+use Rattle.mg_row_writes.specs.Bare.{IsBare}
+use Rattle.mg_row_writes.specs.BareLaws.{bare_fails, bare_lays}
 use Rattle.mg_free_pages.specs.RowSpending.{BatchLaws, failed_lay_spends, lay_short, lay_spends}
 use Rattle.mg_free_pages.specs.Spending.{SpendsAtMost, ToldAreHeld}
 use Rattle.mg_free_pages.specs.SpendingLaws.{both_spend, more_spent, nothing_spent, read_spends}
@@ -193,28 +196,32 @@ module _ {D : Type 0} (m : Meaning D) where
           (read_spends m old.store free.store (free_read m counts_now old core t table write free wait rec is).keeps)
           (read_spends m free.store read.store reads.keeps)
 
-      pub write_takes : (new : Core D) → Writes m old new t table write → TakesPages m old new None 4
-      write_takes new it = record {
+      pub write_takes : IsBare table → (new : Core D) → Writes m old new t table write → TakesPages m old new None 4
+      write_takes bare new it = record {
         spends = both_spend m holds old.store it.puts.read.store new.store 0 4
             (free_spends it.free it.puts.read it.wait it.rec it.is_free it.puts.has.reads)
             (lay_spends m holds laws it.puts.read.store new.store table.pointer.0 it.puts.before.way it.puts.version
-            it.puts.laid.lays);
+            (bare_lays m table bare it.puts.read.store new.store it.puts.before.way write it.puts.version
+            it.puts.laid.lays));
         enough = λ i shows limit full. absurd cc;
       }
 
-      kept_takes : (read new : Core D) (before : Before) (v : Version) (refusal : Refusal)
-          → IsGeometry read.store.geometry → FailsKept m read new t.0 table.pointer.0 key before v refusal
+      kept_takes : IsBare table → (read new : Core D) (before : Before) (v : Version) (refusal : Refusal)
+          → IsGeometry read.store.geometry → FailsKept m read new t.0 table write key before v refusal
           → TakesPages m read new (Some refusal) 4
-      kept_takes read new before v refusal lawful (too_long never counts) =
+      kept_takes bare read new before v refusal lawful (too_long never counts) =
           else_takes read new refusal 4 (counted_else read new refusal counts)
-      kept_takes read new before v refusal lawful (not_kept may told) =
+      kept_takes bare read new before v refusal lawful (key_too_long never counts) =
+          else_takes read new refusal 4 (counted_else read new refusal counts)
+      kept_takes bare read new before v refusal lawful (not_kept may told) =
           else_takes read new refusal 4 (told_else read new refusals.Memory refusal memory_other told)
-      kept_takes read new before v refusal lawful (not_laid fails) = record {
-        spends = failed_lay_spends m holds laws read.store new.store table.pointer.0 before.way v fails.fault fails.fails;
+      kept_takes bare read new before v refusal lawful (not_laid fails) = record {
+        spends = failed_lay_spends m holds laws read.store new.store table.pointer.0 before.way v fails.fault
+            (bare_fails m table bare read.store new.store before.way write v fails.fault fails.fails);
         enough = λ i shows limit full.
             let is = told_full fails.fault refusal limit fails.is (cc full) in
-            lay_short m holds laws read.store new.store table.pointer.0 before.way v fails.fault fails.fails
-            lawful i shows.tells shows.regions shows.free is.0 is.1;
+            lay_short m holds laws read.store new.store table.pointer.0 before.way v fails.fault
+            (bare_fails m table bare read.store new.store before.way write v fails.fault fails.fails) lawful i shows.tells shows.regions shows.free is.0 is.1;
       }
 
       -- what is taken after pages were only read
@@ -235,37 +242,40 @@ module _ {D : Type 0} (m : Meaning D) where
             });
       }
 
-      put_takes : (free new : Core D) (wait : Bool) (rec : Option RecId) (refusal : Refusal)
+      put_takes : IsBare table → (free new : Core D) (wait : Bool) (rec : Option RecId) (refusal : Refusal)
           → IsFree m old free t table write wait rec → FailsPut m free new t table write key rec refusal
           → TakesPages m old new (Some refusal) 4
-      put_takes free new wait rec refusal is (no_version told) = else_takes old new refusal 4
+      put_takes bare free new wait rec refusal is (no_version told) = else_takes old new refusal 4
           (read_first old free new t.0 refusal (free_read m counts_now old core t table write free wait rec is)
           (told_else free new refusals.Memory refusal memory_other told))
-      put_takes free new wait rec refusal is (no_before fails) = else_takes old new refusal 4
+      put_takes bare free new wait rec refusal is (no_before fails) = else_takes old new refusal 4
           (read_first old free new t.0 refusal (free_read m counts_now old core t table write free wait rec is)
           (unread_else free new _ refusal fails))
-      put_takes free new wait rec refusal is (no_lay read before v has fails) =
+      put_takes bare free new wait rec refusal is (no_lay read before v has fails) =
           let spent = free_spends free read wait rec is has.reads in
-          after_read read new (Some refusal) 4 spent (kept_takes read new before v refusal
+          after_read read new (Some refusal) 4 spent (kept_takes bare read new before v refusal
           (subst IsGeometry (sym spent.geometry) core.geometry) fails)
 
-      pub failed_takes : (new : Core D) (refusal : Refusal) → FailsWrite m old new t table write refusal
-          → TakesPages m old new (Some refusal) 4
-      failed_takes new refusal (not_begun is) = else_takes old new refusal 4 (stays_else old new refusal
+      -- who has begun knows of the table that it has no index
+      pub failed_takes : (old.store.offline ≡ None → said old.list t.0 ≡ Active → IsBare table) → (new : Core D)
+          (refusal : Refusal) → FailsWrite m old new t table write refusal → TakesPages m old new (Some refusal) 4
+      failed_takes bare new refusal (not_begun is) = else_takes old new refusal 4 (stays_else old new refusal
           (ap (λ (c : Core D). c.store) is.wait.same)
           (refused_by old.store.offline (said old.list t.0) refusal is.refuses))
-      failed_takes new refusal (only_reads continues wait may) = else_takes old new refusal 4 (stays_else old new refusal
+      failed_takes bare new refusal (only_reads continues wait may) = else_takes old new refusal 4 (stays_else old new refusal
           (ap (λ (c : Core D). c.store) wait.same) (λ limit full. let is = may.is in absurd cc))
-      failed_takes new refusal (at_table begun wait has stops) = else_takes old new refusal 4
+      failed_takes bare new refusal (at_table begun wait has stops) = else_takes old new refusal 4
           (read_first old begun new t.0 refusal (begun_read m counts_now old core t table write begun wait has)
           (table_else begun new t wait table.name refusal stops))
-      failed_takes new refusal (no_key passed wait has fails) = else_takes old new refusal 4
+      failed_takes bare new refusal (no_key passed wait has fails) = else_takes old new refusal 4
           (read_first old passed new t.0 refusal (passed_read m counts_now old core t table write passed wait has)
           (key_else passed new table write refusal fails))
-      failed_takes new refusal (at_row passed wait has some fails) = else_takes old new refusal 4
+      failed_takes bare new refusal (at_row passed wait has some fails) = else_takes old new refusal 4
           (read_first old passed new t.0 refusal (passed_read m counts_now old core t table write passed wait has)
           (row_else passed new t table key write refusal fails))
-      failed_takes new refusal (at_record found wait rec has stops) = else_takes old new refusal 4
+      failed_takes bare new refusal (at_record found wait rec has stops) = else_takes old new refusal 4
           (read_first old found new t.0 refusal (found_read m counts_now old core t table write found wait rec has)
           (stops_else found new t.0 wait _ _ refusal stops))
-      failed_takes new refusal (not_put free wait rec is fails) = put_takes free new wait rec refusal is fails
+      failed_takes bare new refusal (not_put free wait rec is fails) =
+          let continues = is.has_found.has_passed.has_begun.continues in
+          put_takes (bare continues.0 continues.1) free new wait rec refusal is fails

@@ -7,7 +7,7 @@ use Rattle.mg_no_damage.specs.CatalogGrowth.{HasGrown, rows_count}
 use Rattle.mg_space.specs.FreePages.{TakingKeepsRegions}
 use Rattle.mg_pool.specs.Batch.{Changed, IsLawful}
 use Rattle.mg_pool.specs.declared.pool.Pool.{Pool}
-use Rattle.mg_row_writes.specs.Changing.{ChangesOwn, FailsOwn, not_changed, not_filled, not_lawful, nothing_yet}
+use Rattle.mg_batches.specs.Batches.{ChangesOwn, FailsOwn, not_changed, not_filled, not_lawful, nothing_yet}
 use Rattle.mg_space.specs.Taking.{IsGeometry}
 use Rattle.mg_space.specs.View.{Tells}
 use Rattle.mg_space.specs.declared.fault.SpaceFault.{SpaceFault}

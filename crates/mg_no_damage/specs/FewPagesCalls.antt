@@ -1,6 +1,7 @@
 -- The calls of an engine that stands for a history take few pages, by what the core promises of each.
-use Rattle.std.specs.Prelude.{ℕ, Bool, false, List, length, Option, Some, Result, MatchResult}
+use Rattle.std.specs.Prelude.{◌≡◌, ℕ, Bool, false, List, length, Option, Some, Result, MatchResult}
 use Rattle.mg_base.specs.Disk.{Meaning}
+use Rattle.mg_works.specs.Works.{given_to}
 use Rattle.mg_base.specs.declared.numbers.PageNo.{PageNo}
 use Rattle.mg_base.specs.declared.numbers.TxNo.{TxNo}
 use Rattle.mg_model.specs.declared.change.Point.{Point}
@@ -107,7 +108,7 @@ PageWritesTakeNone D m = (old new : Core D) (result : Result (Option PageNo) Ref
 -- a row that fits its table, which was given to the transaction, is written
 abbrev pub WritesTakeFew : (D : Type 0) → Meaning D → Type 0
 WritesTakeFew D m = (old new : Core D) (t : TxNo) (table : Table) (write : Write) (result : Result (Unit {0}) Refusal)
-    → IsCore m old
+    → IsCore m old → given_to old.works t.0 table.name ≡ Some table
     → MatchResult result (λ _. WritesNoted m old new t table write) (FailsNoted m old new t table write)
     → RoomStands m old new (refusal_in result) pages_of_row
 

@@ -6,7 +6,7 @@ use Rattle.mg_core.specs.Obstacles.{IsPassed}
 use Rattle.mg_engine_changes.specs.Looked.{placed_lives}
 use Rattle.mg_pool.specs.Batch.{Changed}
 use Rattle.mg_pool.specs.declared.fault.PoolFault.TheVariants as faults
-use Rattle.mg_row_writes.specs.Changing.{FailsOwn, not_changed, not_filled}
+use Rattle.mg_batches.specs.Batches.{FailsOwn, not_changed, not_filled}
 use Rattle.mg_row_writes.specs.Finding.{IsInWay}
 use Rattle.mg_snap.specs.Live.{State}
 use Rattle.mg_waits.specs.Waits.{Edges, IsVerdict}
@@ -22,7 +22,7 @@ use Rattle.mg_pool.specs.Pool.{shown}
 use Rattle.mg_pool.specs.declared.pool.Pool.{Pool}
 use Rattle.mg_records.specs.Writing.{FitsShape}
 use Rattle.mg_records.specs.declared.write.Write.{Write}
-use Rattle.mg_row_writes.specs.Changing.{not_lawful}
+use Rattle.mg_batches.specs.Batches.{not_lawful}
 use Rattle.mg_row_writes.specs.Storing.{written_at}
 use Rattle.mg_seek.specs.Speaking.{IsSpeaker}
 use Rattle.mg_seek.specs.declared.views.Obstacle.{Obstacle}

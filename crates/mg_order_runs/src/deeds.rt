@@ -9,6 +9,7 @@ ghost use Rattle.mg_space.specs.Taking.{IsGeometry};
 use crate::reading::{Deed, Verb};
 use crate::tables::{catalog, one_column};
 use mg_base::{Bytes, Disk, Geometry, MemDisk, Memory, PageNo, RecId, TxNo, put_u32};
+use mg_batches::change_batch;
 use mg_btree::insert;
 use mg_format::format_database;
 use mg_header::{GREATEST_NEXT, NEXT_AT};
@@ -17,9 +18,7 @@ use mg_node::Entry;
 use mg_node_writing::new_node;
 use mg_pip::{new_pip, set_used};
 use mg_pool::{Batch, Pool, PoolFault};
-use mg_row_writes::{
-    change_batch, make_first, push_over, replace_newest, take_newest_out, take_place,
-};
+use mg_row_writes::{make_first, push_over, replace_newest, take_newest_out, take_place};
 use mg_space::{SpaceFault, Store, page_of, take_page};
 use mg_table_batch::make_table;
 use mg_txlist::TxList;

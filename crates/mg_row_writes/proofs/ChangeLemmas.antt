@@ -1,76 +1,9 @@
--- A batch of its own was filled and changed, or not.
-use Rattle.std.proofs.Common.{◌≡◌, ◌⊎◌, inl, inr, [], Result, Ok, Err, subst}
-use Rattle.std.specs.Prelude.{MatchResult}
-use Rattle.mg_base.specs.Disk.{Meaning}
-use Rattle.mg_base.specs.Image.{Image}
+-- A call that fills a batch read alone.
+use Rattle.std.proofs.Common.{Result, Err}
 use Rattle.mg_heap.specs.Reading.{ReadsData}
-use Rattle.mg_pool.specs.Batch.{Changed}
-use Rattle.mg_pool.specs.Fault.{OnlyWrites, StaysOnline, TellsFault}
-use Rattle.mg_pool.specs.declared.fault.PoolFault.{PoolFault}
-use Rattle.mg_pool.specs.declared.fault.PoolFault.TheVariants.{Memory}
-use Rattle.mg_pool.specs.declared.pool.Pool.{Pool}
-use Rattle.mg_space.specs.View.{KeepsStore, ReadsAlone, Tells, pool_answer}
+use Rattle.mg_space.specs.View.{ReadsAlone}
 use Rattle.mg_space.specs.declared.fault.SpaceFault.{SpaceFault}
 use Rattle.mg_space.specs.declared.fault.SpaceFault.TheVariants as faults
-use Rattle.mg_space.specs.declared.links.FireLinks.{FireLinks}
-use Rattle.mg_row_writes.specs.Changing.{ChangesBatch, ChangesOwn, FailsBatch, FailsOwn, not_changed, not_filled, nothing_yet}
-
--- a batch without pages and orders is the one that has nothing yet
-pub nothing : (batch : Changed) → batch.pages ≡ [] → batch.orders ≡ [] → batch ≡ nothing_yet
-nothing batch pages orders = λ k. record { pages = pages k; orders = orders k }
-
--- the cache refuses a change by a page write, or for want of memory
-pub own_of : (fault : PoolFault)
-    → OnlyWrites {T = Unit {0}} (Err fault) ⊎ (◌≡◌ {A = Result (Unit {0}) PoolFault} (Err fault) (Err Memory))
-    → OnlyWrites {T = Unit {0}} (Err fault) ⊎ (fault ≡ Memory)
-own_of fault (inl own) = inl own
-own_of fault (inr is) = inr cc
-
--- a batch that was filled is changed, or not
-pub own_batch : {D : Type 0} (m : Meaning D) (before ready after : Pool D FireLinks)
-    (fills : Image → Changed → Type 0) (refuses : Image → SpaceFault → Type 0) (empty batch : Changed)
-    (P : Changed → Image → Changed → Type 0) (result : Result (Unit {0}) SpaceFault)
-    → empty.pages ≡ [] → empty.orders ≡ []
-    → ((image : Image) (b : Changed) → P nothing_yet image b → fills image b)
-    → KeepsStore m before ready → StaysOnline m before ready
-    → ((image : Image) → Tells m before.disk image → P empty image batch)
-    → MatchResult result (λ _. ChangesBatch m ready after batch) (FailsBatch m ready after batch)
-    → MatchResult result (λ _. ChangesOwn m before after fills) (FailsOwn m before after fills refuses)
-own_batch m before ready after fills refuses empty batch P (Ok x) pages orders hands keeps online filled
-    changed = record {
-      batch = batch;
-      ready = ready;
-      keeps = keeps;
-      online = online;
-      filled = λ image tells. hands image batch (subst (λ (e : Changed). P e image batch) (nothing empty pages orders)
-          (filled image tells));
-      changed = changed;
-    }
-own_batch m before ready after fills refuses empty batch P (Err fault) pages orders hands keeps online filled failed =
-    not_changed batch ready keeps online (λ image tells. hands image batch (subst (λ (e : Changed). P e image batch)
-    (nothing empty pages orders) (filled image tells))) failed
-
--- it is not filled
-pub not_filled_by : {D : Type 0} (T : Type 0) (m : Meaning D) (before after : Pool D FireLinks)
-    (fills : Image → Changed → Type 0) (refuses : Changed → Image → SpaceFault → Type 0) (empty : Changed)
-    (fault : SpaceFault) → empty.pages ≡ [] → empty.orders ≡ [] → KeepsStore m before after
-    → ReadsAlone {T = T} (Err fault) → TellsFault m before after (pool_answer {T = T} (Err fault))
-    → ((image : Image) → Tells m before.disk image → refuses empty image fault)
-    → FailsOwn m before after fills (refuses nothing_yet) fault
-not_filled_by {D} T m before after fills refuses empty fault pages orders keeps own told why =
-    not_filled keeps (as_own fault own) (as_told fault told)
-    (λ image tells. subst (λ (e : Changed). refuses e image fault) (nothing empty pages orders) (why image tells))
-  where
-    as_own : (f : SpaceFault) → ReadsAlone {T = T} (Err f) → ReadsAlone {T = Unit {0}} (Err f)
-    as_own (faults.Full limit) given = given
-    as_own (faults.Damaged it) given = given
-    as_own (faults.Pool it) given = given
-
-    as_told : (f : SpaceFault) → TellsFault m before after (pool_answer {T = T} (Err f))
-        → TellsFault m before after (pool_answer {T = Unit {0}} (Err f))
-    as_told (faults.Full limit) given = given
-    as_told (faults.Damaged it) given = given
-    as_told (faults.Pool it) given = given
 
 -- a reading of data alone is one of a call that fills a batch
 pub data_alone : (T : Type 0) (fault : SpaceFault) → ReadsData {T = T} (Err fault) → ReadsAlone {T = T} (Err fault)

@@ -1,52 +1,16 @@
 //! A row is changed in a batch of its own.
 
 ghost use Rattle.std.specs.Prelude.{◌≡◌, ◌≢◌, ◌+◌, ◌≤◌, ◌<◌, MatchResult, false, length};
-ghost use Rattle.mg_pool.specs.Batch.{AreBelow};
 ghost use Rattle.mg_pool.specs.Pool.{IsPool};
 ghost use Rattle.mg_space.specs.Taking.{IsGeometry};
-ghost use Rattle.mg_row_writes.specs.Changing.{ChangesBatch, FailsBatch, FailsFirst, FailsOver, FailsPlace, FailsReplacing, FailsTakingOut, MakesFirst, PushesOver, ReplacesNewest, TakesNewestOut, TakesPlace, not_lawful};
+ghost use Rattle.mg_row_writes.specs.Changing.{FailsFirst, FailsOver, FailsPlace, FailsReplacing, FailsTakingOut, MakesFirst, PushesOver, ReplacesNewest, TakesNewestOut, TakesPlace};
 
-use mg_base::{Damaged, Disk, Field, GREATEST_LIMIT, PageNo, RecId};
+use mg_base::{Disk, GREATEST_LIMIT, PageNo, RecId};
+use mg_batches::change_batch;
 use mg_chain::{back_out, first, push, replace_own, spot};
 use mg_pool::Batch;
 use mg_space::{SpaceFault, Store};
 use mg_version::Version;
-
-/// What is told of that which no lawful caller asks for: a bit of page 0 that is not set.
-pub fn unlawful() -> Damaged
-    ensures { result ≡ not_lawful }
-{
-    Damaged {
-        page: PageNo(0),
-        field: Field::Bit,
-        found: 0,
-        wanted: 1,
-    }
-}
-
-/// Has the cache change a batch of pages below the page limit, if it is lawful.
-///
-/// # Errors
-///
-/// `Damaged` by `unlawful` where it is not, which no lawful caller meets; what the cache is refused for. No content has
-/// changed then.
-pub fn change_batch<D: Disk>(store: &mut Store<D>, batch: Batch) -> Result<(), SpaceFault>
-    requires pool { IsPool D.meaning store.old }
-    requires below { AreBelow store.old.geometry.limit batch.pages }
-
-    ensures pool { IsPool D.meaning store.new }
-    ensures geometry { store.new.geometry ≡ store.old.geometry }
-    ensures changes { MatchResult result (λ _. ChangesBatch D.meaning store.old store.new batch)
-        (FailsBatch D.meaning store.old store.new batch) }
-{
-    if !batch.is_lawful(store.geometry().size) {
-        return Err(SpaceFault::Damaged(unlawful()));
-    }
-    match store.change(batch) {
-        Ok(()) => Ok(()),
-        Err(fault) => Err(SpaceFault::Pool(fault)),
-    }
-}
 
 /// Takes a place for a record, in a batch of its own: it holds nothing yet.
 ///

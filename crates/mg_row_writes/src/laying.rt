@@ -1,48 +1,55 @@
-//! A version comes into the record of its key.
+//! A version comes into the record of its key, after the entries of its row.
 
 ghost use Rattle.std.specs.Prelude.{◌≡◌, ◌≢◌, ◌+◌, ◌≤◌, ◌<◌, MatchResult, false, length};
 ghost use Rattle.mg_pool.specs.Pool.{IsPool};
 ghost use Rattle.mg_space.specs.Taking.{IsGeometry};
-ghost use Rattle.mg_row_writes.specs.Laying.{FailsLay, FailsNew, FailsOverDead, LaysIn, LaysOverDead, told_of};
+ghost use Rattle.mg_row_writes.specs.Laying.{EntersFirst, EntersOver, EntersOwn, FailsEnterFirst, FailsEnterOver, FailsEnterOwn, FailsLay, FailsNew, FailsOverDead, KeysMayBeLaid, LaysIn, LaysOverDead, told_of};
 
 use crate::before::Way;
 use crate::changing::{make_first, push_over, replace_newest, take_newest_out, take_place};
-use mg_base::{Disk, GREATEST_LIMIT, PageNo, RecId};
+use crate::entering::enter_row;
+use mg_base::{Disk, GREATEST_LIMIT, RecId};
+use mg_model::Table;
+use mg_records::Write;
 use mg_space::{SpaceFault, Store};
 use mg_version::Version;
 
-/// Brings a version into the record of its key, on its way, and tells the record.
+/// Lays the entries of a write's row and then brings its version into the record of its key, on its way, and tells the
+/// record.
 ///
-/// `owner` is the table's first pointer page.
+/// The entries come first: a row that is there has its entries, whenever it is looked for. An entry without a row does
+/// no harm, since who comes by it to a record asks the record.
 ///
 /// # Errors
 ///
 /// As the batches on that way. A place that was taken stays, and holds nothing; a dead transaction's version that
-/// was taken out is gone.
+/// was taken out is gone; entries that were laid stay.
 pub fn lay<D: Disk>(
     store: &mut Store<D>,
-    owner: PageNo,
+    table: &Table,
     way: Way,
+    write: &Write,
     v: &Version,
 ) -> Result<RecId, SpaceFault>
     requires pool { IsPool D.meaning store.old }
     requires geometry { IsGeometry store.old.geometry }
-    requires owner { owner.0 < GREATEST_LIMIT }
-    requires some { owner.0 ≢ 0 }
+    requires owner { table.now.pointer.0 < GREATEST_LIMIT }
+    requires some { table.now.pointer.0 ≢ 0 }
+    requires short { KeysMayBeLaid store.old.geometry.size table.now write.now }
     requires apart { v.now.primary ≡ false }
     requires stored { 1 ≤ v.now.format }
     requires length { length v.now.body + 42 ≤ store.old.geometry.size }
 
     ensures pool { IsPool D.meaning store.new }
     ensures geometry { store.new.geometry ≡ store.old.geometry }
-    ensures lays { MatchResult result (LaysIn D.meaning store.old store.new owner.0 way v.now)
-        (FailsLay D.meaning store.old store.new owner.0 way v.now) }
+    ensures lays { MatchResult result (LaysIn D.meaning store.old store.new table.now way write.now v.now)
+        (FailsLay D.meaning store.old store.new table.now way write.now v.now) }
 {
     match way {
-        Way::Make => lay_new(store, owner, v),
-        Way::Push(rec) => in_record(rec, push_over(store, rec, v)),
-        Way::PushOverDead(rec) => in_record(rec, lay_over_dead(store, rec, v)),
-        Way::Replace(rec) => in_record(rec, replace_newest(store, rec, v)),
+        Way::Make => lay_new(store, table, write, v),
+        Way::Push(rec) => in_record(rec, enter_over(store, table, rec, write, v)),
+        Way::PushOverDead(rec) => in_record(rec, lay_over_dead(store, table, rec, write, v)),
+        Way::Replace(rec) => in_record(rec, enter_own(store, table, rec, write, v)),
     }
 }
 
@@ -60,12 +67,18 @@ fn in_record(rec: RecId, done: Result<(), SpaceFault>) -> Result<RecId, SpaceFau
     }
 }
 
-/// Makes a record: takes a place, and puts its first version there.
-fn lay_new<D: Disk>(store: &mut Store<D>, owner: PageNo, v: &Version) -> Result<RecId, SpaceFault>
+/// Makes a record: takes a place, lays the entries that name it, and puts its first version there.
+fn lay_new<D: Disk>(
+    store: &mut Store<D>,
+    table: &Table,
+    write: &Write,
+    v: &Version,
+) -> Result<RecId, SpaceFault>
     requires pool { IsPool D.meaning store.old }
     requires geometry { IsGeometry store.old.geometry }
-    requires owner { owner.0 < GREATEST_LIMIT }
-    requires some { owner.0 ≢ 0 }
+    requires owner { table.now.pointer.0 < GREATEST_LIMIT }
+    requires some { table.now.pointer.0 ≢ 0 }
+    requires short { KeysMayBeLaid store.old.geometry.size table.now write.now }
     requires apart { v.now.primary ≡ false }
     requires stored { 1 ≤ v.now.format }
     requires length { length v.now.body + 42 ≤ store.old.geometry.size }
@@ -73,28 +86,113 @@ fn lay_new<D: Disk>(store: &mut Store<D>, owner: PageNo, v: &Version) -> Result<
     ensures pool { IsPool D.meaning store.new }
     ensures geometry { store.new.geometry ≡ store.old.geometry }
     ensures lays { MatchResult result
-        (LaysIn D.meaning store.old store.new owner.0 Way.Make v.now)
-        (FailsNew D.meaning store.old store.new owner.0 v.now) }
+        (LaysIn D.meaning store.old store.new table.now Way.Make write.now v.now)
+        (FailsNew D.meaning store.old store.new table.now write.now v.now) }
 {
     // The place has a batch of its own: a table that grows puts the new page before the pointer page that lists
     // it, and a first version on that page asks for the contrary.
-    let at = take_place(store, owner)?;
-    in_record(at, make_first(store, owner, at, v))
+    let at = take_place(store, table.pointer)?;
+    in_record(at, enter_first(store, table, at, write, v))
 }
 
-/// Takes a dead transaction's newest version out of a record, and pushes a version.
-fn lay_over_dead<D: Disk>(store: &mut Store<D>, rec: RecId, v: &Version) -> Result<(), SpaceFault>
+/// Takes a dead transaction's newest version out of a record, lays the entries, and pushes a version.
+fn lay_over_dead<D: Disk>(
+    store: &mut Store<D>,
+    table: &Table,
+    rec: RecId,
+    write: &Write,
+    v: &Version,
+) -> Result<(), SpaceFault>
     requires pool { IsPool D.meaning store.old }
     requires geometry { IsGeometry store.old.geometry }
+    requires short { KeysMayBeLaid store.old.geometry.size table.now write.now }
     requires apart { v.now.primary ≡ false }
     requires stored { 1 ≤ v.now.format }
     requires length { length v.now.body + 42 ≤ store.old.geometry.size }
 
     ensures pool { IsPool D.meaning store.new }
     ensures geometry { store.new.geometry ≡ store.old.geometry }
-    ensures lays { MatchResult result (λ _. LaysOverDead D.meaning store.old store.new rec v.now)
-        (FailsOverDead D.meaning store.old store.new rec v.now) }
+    ensures lays { MatchResult result
+        (λ _. LaysOverDead D.meaning store.old store.new table.now rec write.now v.now)
+        (FailsOverDead D.meaning store.old store.new table.now rec write.now v.now) }
 {
     take_newest_out(store, rec)?;
+    enter_over(store, table, rec, write, v)
+}
+
+/// Lays the entries for a record that has a place, and puts its first version there.
+fn enter_first<D: Disk>(
+    store: &mut Store<D>,
+    table: &Table,
+    at: RecId,
+    write: &Write,
+    v: &Version,
+) -> Result<(), SpaceFault>
+    requires pool { IsPool D.meaning store.old }
+    requires geometry { IsGeometry store.old.geometry }
+    requires owner { table.now.pointer.0 < GREATEST_LIMIT }
+    requires some { table.now.pointer.0 ≢ 0 }
+    requires short { KeysMayBeLaid store.old.geometry.size table.now write.now }
+    requires apart { v.now.primary ≡ false }
+    requires stored { 1 ≤ v.now.format }
+    requires length { length v.now.body + 42 ≤ store.old.geometry.size }
+
+    ensures pool { IsPool D.meaning store.new }
+    ensures geometry { store.new.geometry ≡ store.old.geometry }
+    ensures lays { MatchResult result
+        (λ _. EntersFirst D.meaning store.old store.new table.now at write.now v.now)
+        (FailsEnterFirst D.meaning store.old store.new table.now at write.now v.now) }
+{
+    enter_row(store, table, at, write)?;
+    make_first(store, table.pointer, at, v)
+}
+
+/// Lays the entries, and pushes a version over the newest one of a record.
+fn enter_over<D: Disk>(
+    store: &mut Store<D>,
+    table: &Table,
+    rec: RecId,
+    write: &Write,
+    v: &Version,
+) -> Result<(), SpaceFault>
+    requires pool { IsPool D.meaning store.old }
+    requires geometry { IsGeometry store.old.geometry }
+    requires short { KeysMayBeLaid store.old.geometry.size table.now write.now }
+    requires apart { v.now.primary ≡ false }
+    requires stored { 1 ≤ v.now.format }
+    requires length { length v.now.body + 42 ≤ store.old.geometry.size }
+
+    ensures pool { IsPool D.meaning store.new }
+    ensures geometry { store.new.geometry ≡ store.old.geometry }
+    ensures lays { MatchResult result
+        (λ _. EntersOver D.meaning store.old store.new table.now rec write.now v.now)
+        (FailsEnterOver D.meaning store.old store.new table.now rec write.now v.now) }
+{
+    enter_row(store, table, rec, write)?;
     push_over(store, rec, v)
+}
+
+/// Lays the entries, and replaces a transaction's own newest version of a record.
+fn enter_own<D: Disk>(
+    store: &mut Store<D>,
+    table: &Table,
+    rec: RecId,
+    write: &Write,
+    v: &Version,
+) -> Result<(), SpaceFault>
+    requires pool { IsPool D.meaning store.old }
+    requires geometry { IsGeometry store.old.geometry }
+    requires short { KeysMayBeLaid store.old.geometry.size table.now write.now }
+    requires apart { v.now.primary ≡ false }
+    requires stored { 1 ≤ v.now.format }
+    requires length { length v.now.body + 42 ≤ store.old.geometry.size }
+
+    ensures pool { IsPool D.meaning store.new }
+    ensures geometry { store.new.geometry ≡ store.old.geometry }
+    ensures lays { MatchResult result
+        (λ _. EntersOwn D.meaning store.old store.new table.now rec write.now v.now)
+        (FailsEnterOwn D.meaning store.old store.new table.now rec write.now v.now) }
+{
+    enter_row(store, table, rec, write)?;
+    replace_newest(store, rec, v)
 }

@@ -8,7 +8,7 @@ use Rattle.mg_model.specs.declared.table.Table.{Table}
 use Rattle.mg_pool.specs.Batch.{Changed, IsLawful}
 use Rattle.mg_pool.specs.Fault.{StaysOnline, TellsFault}
 use Rattle.mg_pool.specs.declared.pool.Pool.{Pool}
-use Rattle.mg_row_writes.specs.Changing.{ChangesBatch, ChangesOwn, FailsBatch, FailsOwn, not_changed, not_filled, nothing_yet}
+use Rattle.mg_batches.specs.Batches.{ChangesBatch, ChangesOwn, FailsBatch, FailsOwn, not_changed, not_filled, nothing_yet}
 use Rattle.mg_space.specs.View.{KeepsStore, ReadsAlone, Tells, pool_answer}
 use Rattle.mg_space.specs.declared.fault.SpaceFault.{SpaceFault}
 use Rattle.mg_space.specs.declared.fault.SpaceFault.TheVariants as faults

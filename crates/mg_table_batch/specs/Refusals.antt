@@ -11,7 +11,7 @@ use Rattle.mg_model.specs.declared.table.Table.{Table}
 use Rattle.mg_pool.specs.Batch.{Changed}
 use Rattle.mg_pool.specs.declared.pool.Pool.{Pool}
 use Rattle.mg_records.specs.declared.write.Write.TheVariants as writes
-use Rattle.mg_row_writes.specs.Changing.{not_lawful}
+use Rattle.mg_batches.specs.Batches.{not_lawful}
 use Rattle.mg_row_writes.specs.Storing.{IsStored, MayBeStored}
 use Rattle.mg_space.specs.Taking.{RefusesTake}
 use Rattle.mg_space.specs.View.{KeepsStore, viewed}

@@ -3,14 +3,14 @@
 ghost use Rattle.std.specs.Prelude.{◌≡◌, ◌≢◌, ◌<◌, MatchResult};
 ghost use Rattle.mg_pool.specs.Batch.{AreBelow, IsLawful};
 ghost use Rattle.mg_pool.specs.Pool.{IsPool};
-ghost use Rattle.mg_row_writes.specs.Changing.{ChangesBatch, FailsBatch};
+ghost use Rattle.mg_batches.specs.Batches.{ChangesBatch, FailsBatch};
 ghost use Rattle.mg_space.specs.Taking.{IsGeometry};
 ghost use Rattle.mg_table_batch.specs.Making.{FailsGrowth, Grows};
 
 use mg_base::{Disk, GREATEST_LIMIT, PageNo};
+use mg_batches::change_batch;
 use mg_heap::page_with_room;
 use mg_pool::Batch;
-use mg_row_writes::change_batch;
 use mg_space::{SpaceFault, Store};
 
 /// Gives a table a data page more, in a batch of its own.

@@ -8,9 +8,9 @@ ghost use Rattle.mg_table_batch.specs.Making.{FailsTable, FailsTry, MakesTable, 
 use crate::filling::fill;
 use crate::growing::{change_lawful, grow};
 use mg_base::{Disk, GREATEST_LIMIT, TxNo};
+use mg_batches::unlawful;
 use mg_model::Table;
 use mg_pool::Batch;
-use mg_row_writes::unlawful;
 use mg_space::{SpaceFault, Store};
 use mg_value::{MOST_COLUMNS, Name, Shape};
 

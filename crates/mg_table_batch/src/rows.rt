@@ -12,11 +12,12 @@ ghost use Rattle.mg_table_batch.specs.Filling.{PutsRow, PutsRows, StoresRow};
 ghost use Rattle.mg_table_batch.specs.Refusals.{RefusesRow, RefusesRows, RefusesStoring};
 
 use mg_base::{Disk, GREATEST_LIMIT, Memory, RecId, TxNo};
+use mg_batches::unlawful;
 use mg_chain::{first, spot};
 use mg_model::Table;
 use mg_pool::{Batch, PoolFault};
 use mg_records::Write;
-use mg_row_writes::{may_be_stored, stored_version, unlawful};
+use mg_row_writes::{may_be_stored, stored_version};
 use mg_space::{SpaceFault, Store};
 use mg_value::{Row, row_fits};
 use mg_version::Version;

@@ -6,9 +6,9 @@ ghost use Rattle.mg_table_making.specs.Creating.{FailsPut, PutsTable};
 
 use crate::keeping::{keep_each, retract_last};
 use mg_base::{Disk, TxNo};
+use mg_batches::unlawful;
 use mg_core::Core;
 use mg_model::Refusal;
-use mg_row_writes::unlawful;
 use mg_space::SpaceFault;
 use mg_table_batch::make_table;
 use mg_value::{Key, MOST_COLUMNS, Name, Shape};

@@ -15,7 +15,7 @@ use Rattle.mg_space.specs.View.{KeepsStore, ReadsAlone, Tells, pool_answer}
 use Rattle.mg_space.specs.declared.fault.SpaceFault.{SpaceFault}
 use Rattle.mg_space.specs.declared.fault.SpaceFault.TheVariants as faults
 use Rattle.mg_space.specs.declared.links.FireLinks.{FireLinks}
-use Rattle.mg_row_writes.specs.Changing.{ChangesBatch, ChangesOwn, FailsBatch, FailsOwn, not_changed, not_filled, nothing_yet}
+use Rattle.mg_batches.specs.Batches.{ChangesBatch, ChangesOwn, FailsBatch, FailsOwn, not_changed, not_filled, nothing_yet}
 use Rattle.mg_table_unmaking.specs.Rows.{FailsRowOut, RefusesRow, TakesRow, TakesRowOut}
 
 -- a batch without pages and orders is the one that has nothing yet

@@ -13,7 +13,7 @@ use Rattle.mg_pool.specs.Batch.{Changed}
 use Rattle.mg_pool.specs.declared.batch.BatchPage.{BatchPage}
 use Rattle.mg_pool.specs.declared.fault.PoolFault.TheVariants as pool_faults
 use Rattle.mg_pool.specs.declared.pool.Pool.{Pool}
-use Rattle.mg_row_writes.specs.Changing.{ChangesOwn, FailsOwn, nothing_yet}
+use Rattle.mg_batches.specs.Batches.{ChangesOwn, FailsOwn, nothing_yet}
 use Rattle.mg_seek.specs.Speaking.{IsSpeaker, RefusesTableRows}
 use Rattle.mg_seek.specs.Versions.{IsFirst, wants}
 use Rattle.mg_seek.specs.declared.walk.Placed.{Placed}

@@ -9,7 +9,7 @@
 //! Orders: those of the record that is taken out (`back_out` of mg_chain).
 //!
 //! Invariant: none, it keeps no state.
-//! Below: `mg_chain` for records, `mg_seek` for who speaks for a key, `mg_row_writes` for what a batch owes. Above: the way
+//! Below: `mg_chain` for records, `mg_seek` for who speaks for a key, `mg_batches` for what a batch owes. Above: the way
 //! back to a point, which takes back the keys of all other tables first, and then one row after another.
 //! Not here: which keys, that they are of whole tables, and what comes of histories and crashes (`mg_engine_steps`).
 #![tactic(auto)]

@@ -10,10 +10,10 @@ ghost use Rattle.mg_space.specs.View.{AreWhole, KeepsStore, Tells, pool_answer, 
 ghost use Rattle.mg_table_unmaking.specs.Rows.{FailsRowOut, IsAlone, IsAloneAt, RefusesAloneAt, RefusesRow, TakesRow, TakesRowOut};
 
 use mg_base::{Disk, GREATEST_LIMIT, RecId, TxNo};
+use mg_batches::change_batch;
 use mg_chain::{States, back_out};
 use mg_model::Table;
 use mg_pool::{Batch, PoolFault};
-use mg_row_writes::change_batch;
 use mg_seek::{Placed, Wanted, first_version, speaker};
 use mg_snap::Live;
 use mg_space::{SpaceFault, Store};
@@ -109,7 +109,7 @@ fn take_row<D: Disk, S: States>(
 ///
 /// # Errors
 ///
-/// As `take_row`, and as `change_batch` of mg_row_writes.
+/// As `take_row`, and as `change_batch` of mg_batches.
 pub fn take_row_out<D: Disk, S: States>(
     store: &mut Store<D>,
     table: &Table,

@@ -15,7 +15,8 @@ use Rattle.mg_pool.specs.declared.pool.Pool.{Pool}
 use Rattle.mg_records.specs.Writing.{FitsShape}
 use Rattle.mg_records.specs.declared.write.Write.{Write}
 use Rattle.mg_records.specs.declared.write.Write.TheVariants as writes
-use Rattle.mg_row_writes.specs.Changing.{FailsReplacing, FailsTakingOut, ReplacesNewest, TakesNewestOut, not_lawful}
+use Rattle.mg_batches.specs.Batches.{not_lawful}
+use Rattle.mg_row_writes.specs.Changing.{FailsReplacing, FailsTakingOut, ReplacesNewest, TakesNewestOut}
 use Rattle.mg_row_writes.specs.Storing.{IsStored, MayBeStored}
 use Rattle.mg_seek.specs.Speaking.{IsSpeaker, RefusesTableRows}
 use Rattle.mg_seek.specs.Versions.{IsFirst, wants}

@@ -8,9 +8,9 @@ ghost use Rattle.mg_taking_back.specs.Changes.{FailsChange, FailsPages, TakesCha
 
 use crate::keys::take_in;
 use mg_base::{Disk, TxNo};
+use mg_batches::unlawful;
 use mg_core::{Core, StatesOf};
 use mg_model::{Refusal, Table};
-use mg_row_writes::unlawful;
 use mg_space::SpaceFault;
 use mg_undo::Was;
 use mg_value::Key;

@@ -17,11 +17,12 @@ ghost use Rattle.mg_taking_back.specs.Keys.{FailsKey, FailsPuttingBack, FailsRep
 
 use crate::formers::may_come_back;
 use mg_base::{Disk, GREATEST_LIMIT, RecId, TxNo};
+use mg_batches::unlawful;
 use mg_chain::States;
 use mg_model::Table;
 use mg_pool::{Batch, PoolFault};
 use mg_records::Write;
-use mg_row_writes::{may_be_stored, replace_newest, stored_version, take_newest_out, unlawful};
+use mg_row_writes::{may_be_stored, replace_newest, stored_version, take_newest_out};
 use mg_seek::{Placed, Wanted, first_version, speaker};
 use mg_snap::Live;
 use mg_space::{SpaceFault, Store};

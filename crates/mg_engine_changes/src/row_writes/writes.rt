@@ -17,7 +17,7 @@
 ghost use Rattle.mg_engine_changes.specs.Befores.{BeforesAreTold};
 ghost use Rattle.mg_engine_changes.specs.Codes.{StoredRowsAreCoded};
 ghost use Rattle.mg_engine_changes.specs.Kept.{MadeWritesFollow};
-ghost use Rattle.mg_engine_changes.specs.Laid.{DeadsStay, NewRowsGoOn, OverDeadRowsGoOn, PlacesStay, PushedRowsGoOn, ReplacedRowsGoOn};
+ghost use Rattle.mg_engine_changes.specs.Laid.{DeadsStay, NewRowsGoOn, OverDeadRowsGoOn, PlacesStay, PushedRowsGoOn, ReadyStays, ReplacedRowsGoOn};
 ghost use Rattle.mg_engine_changes.specs.Made.{MadeRowsGive};
 ghost use Rattle.mg_engine_changes.specs.Owners.{SeenMayBeWritten};
 ghost use Rattle.mg_engine_changes.specs.Plain.{WritesKeepPlain};
@@ -213,8 +213,10 @@ pub fn over_dead_rows_go_on<D: Disk, P>()
     tables_of_layouts_are_walked();
 }
 
-/// The first batch of a version that takes two: a place is taken, or a dead transaction's version is taken out.
+/// The first batch of a version that takes two: a place is taken, or a dead transaction's version is taken out. Before it
+/// pages were only read.
 pub fn first_batches_stay<D: Disk, P>()
+    ensures reads { ReadyStays D P D.meaning }
     ensures places { PlacesStay D P D.meaning }
     ensures deads { DeadsStay D P D.meaning }
 {

@@ -5,9 +5,10 @@ use Rattle.mg_chain.specs.Writing.{Pushes}
 use Rattle.mg_chain.specs.WritingRefusals.{RefusesPush}
 use Rattle.mg_pool.specs.Batch.{Changed}
 use Rattle.mg_space.specs.declared.fault.SpaceFault.{SpaceFault}
-use Rattle.mg_row_writes.specs.Changing.{FailsOver, not_filled, nothing_yet}
+use Rattle.mg_batches.specs.Batches.{not_filled, nothing_yet}
+use Rattle.mg_row_writes.specs.Changing.{FailsOver}
 use Rattle.mg_row_writes.proofs.FindLemmas.{handed_on}
-use Rattle.mg_row_writes.proofs.ChangeLemmas.{not_filled_by, own_batch}
+use Rattle.mg_batches.specs.BatchLaws.{not_filled_by, own_batch}
 use Rattle.mg_space.specs.BelowLaws.{below_kept}
 use Rattle.mg_row_writes.proofs.changing.push_over.Goals as goal
 

@@ -5,9 +5,11 @@ use Rattle.mg_chain.specs.Writing.{TakesOut}
 use Rattle.mg_chain.specs.WritingRefusals.{RefusesBackOut}
 use Rattle.mg_pool.specs.Batch.{Changed}
 use Rattle.mg_space.specs.declared.fault.SpaceFault.{SpaceFault}
-use Rattle.mg_row_writes.specs.Changing.{FailsTakingOut, not_filled, nothing_yet}
+use Rattle.mg_batches.specs.Batches.{not_filled, nothing_yet}
+use Rattle.mg_row_writes.specs.Changing.{FailsTakingOut}
 use Rattle.mg_row_writes.proofs.FindLemmas.{handed_on}
-use Rattle.mg_row_writes.proofs.ChangeLemmas.{data_alone, not_filled_by, own_batch}
+use Rattle.mg_batches.specs.BatchLaws.{not_filled_by, own_batch}
+use Rattle.mg_row_writes.proofs.ChangeLemmas.{data_alone}
 use Rattle.mg_space.specs.BelowLaws.{below_kept}
 use Rattle.mg_row_writes.proofs.changing.take_newest_out.Goals as goal
 

@@ -5,9 +5,10 @@ use Rattle.mg_chain.specs.Writing.{GivesSpot}
 use Rattle.mg_chain.specs.WritingRefusals.{RefusesSpot}
 use Rattle.mg_pool.specs.Batch.{Changed}
 use Rattle.mg_space.specs.declared.fault.SpaceFault.{SpaceFault}
-use Rattle.mg_row_writes.specs.Changing.{FailsPlace, not_changed, nothing_yet}
+use Rattle.mg_batches.specs.Batches.{not_changed, nothing_yet}
+use Rattle.mg_row_writes.specs.Changing.{FailsPlace}
 use Rattle.mg_row_writes.proofs.FindLemmas.{handed_on}
-use Rattle.mg_row_writes.proofs.ChangeLemmas.{not_filled_by, nothing}
+use Rattle.mg_batches.specs.BatchLaws.{not_filled_by, nothing}
 use Rattle.mg_space.specs.BelowLaws.{below_kept}
 use Rattle.mg_row_writes.proofs.changing.take_place.Goals as goal
 

@@ -4,7 +4,7 @@ use Rattle.mg_base.specs.declared.geometry.Geometry.{Geometry}
 use Rattle.mg_base.specs.declared.numbers.PageNo.{PageNo}
 use Rattle.mg_heap.specs.Room.{GivesRoom, RefusesRoom}
 use Rattle.mg_pool.specs.Batch.{Changed}
-use Rattle.mg_row_writes.specs.Changing.{nothing_yet}
+use Rattle.mg_batches.specs.Batches.{nothing_yet}
 use Rattle.mg_space.specs.declared.fault.SpaceFault.{SpaceFault}
 use Rattle.mg_table_batch.proofs.MakeLemmas.{own_batch}
 use Rattle.mg_space.specs.BelowLaws.{below_kept}

@@ -1,5 +1,21 @@
-use Rattle.mg_engine_changes.specs.LaidLaws.{dead_stays, place_stays}
+use Rattle.mg_engine_changes.specs.LaidLaws.{dead_stays, place_stays, read_stays}
 use Rattle.mg_engine_changes.proofs.row_writes.writes.first_batches_stay.Goals as goal
+
+pub returns-clause-reads : goal.returns-clause-reads
+returns-clause-reads g c = λ places old read t table write before version o h core given noted fits storable ready
+    stands.
+    read_stays c.keys_are_answered.ensures.speakers c.keys_are_answered.ensures.obstacles c.keys_are_answered.ensures.rows
+    c.keys_are_answered.ensures.nothing c.histories_go_on.ensures.begins c.verdicts_are_the_machines.ensures
+    c.notes_follow_the_machine.ensures.none c.befores_are_told.ensures c.made_writes_follow.ensures
+    c.seen_may_be_written.ensures c.stored_rows_are_coded.ensures c.lists_go_on.ensures.stay
+    c.one_reading.ensures.packed_rows c.tips_stay.ensures.on c.tips_stay.ensures.behind c.writes_keep_plain.ensures
+    c.ways_are_free.ensures (record {
+      one_way = c.sound_images_stand_one_way.ensures;
+      walked = c.tables_of_layouts_are_walked.ensures;
+      speakers = c.records_are_those_of_every_reading.ensures.speakers;
+    }) g.D.Disk.meaning places g.met.D.Disk.counts_now g.met.D.Disk.holds
+    c.unasking_lasts.ensures c.batches_last.ensures.reads c.writes_go_on.ensures c.pushes_go_on.ensures
+    c.replacements_go_on.ensures old t table write core given noted fits storable o h read before version ready stands
 
 pub returns-clause-places : goal.returns-clause-places
 returns-clause-places g c = λ places old read t table write before version store at o h core given noted fits storable ready way

@@ -2,8 +2,8 @@ use Rattle.std.proofs.Common.{◌∙◌, ap, refl, subst, sym, ℕ}
 use Rattle.std.proofs.lemmas.Bool.{false≢true}
 use Rattle.mg_base.specs.declared.geometry.Geometry.{Geometry}
 use Rattle.mg_pool.specs.Batch.{IsLawful}
-use Rattle.mg_row_writes.proofs.ChangeLemmas.{own_of}
-use Rattle.mg_row_writes.proofs.changing.change_batch.Goals as goal
+use Rattle.mg_batches.proofs.ChangeLemmas.{own_of}
+use Rattle.mg_batches.proofs.changing.change_batch.Goals as goal
 
 pub returns-then-not-is_lawful-clause-pool : goal.returns-then-not-is_lawful-clause-pool
 returns-then-not-is_lawful-clause-pool g c = c.requires.pool

@@ -1,0 +1,2 @@
+pub mod EntryStays
+pub mod EntryStaysLaws

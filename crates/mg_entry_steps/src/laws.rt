@@ -1,0 +1,22 @@
+//! An entry is laid by an engine. The function does nothing: its contract is the law.
+
+ghost use Rattle.mg_image.specs.Form.{packed_form};
+ghost use Rattle.mg_entry_steps.specs.EntryStays.{EntriesStay};
+
+use mg_base::Disk;
+use mg_engine_steps::batches_last;
+use mg_entry_overlays::entry_batches_keep;
+use mg_entry_ties::insertions_lay;
+use mg_model::histories_go_on;
+use mg_space::FireLinks;
+
+/// An engine that lays an entry in an index of a table that is there, or that a transaction has made, stands for the same
+/// history.
+pub fn entries_stay<D: Disk>()
+    ensures { EntriesStay packed_form D FireLinks D.meaning }
+{
+    entry_batches_keep();
+    insertions_lay();
+    histories_go_on();
+    batches_last::<D, FireLinks>();
+}
