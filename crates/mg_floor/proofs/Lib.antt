@@ -1,0 +1,6 @@
+mod BoardLemmas
+mod GivingUpLemmas
+mod LinesLemmas
+mod StageLemmas
+mod StartLemmas
+mod SteppingLemmas

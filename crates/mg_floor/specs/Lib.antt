@@ -1,0 +1,12 @@
+pub mod Answering
+pub mod Boards
+pub mod Coming
+pub mod ComingLaws
+pub mod Ends
+pub mod ScriptLaws
+pub mod Scripts
+pub mod SteppingLaws
+pub mod TakingUp
+pub mod TakingUpLaws
+pub mod Trying
+pub mod Waiting
