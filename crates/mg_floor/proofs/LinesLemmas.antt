@@ -1,5 +1,5 @@
 -- Lines are gone through one by one, and sessions.
-use Rattle.std.proofs.Common.{◌≡◌, ◌<◌, ◌+◌, ◌-◌, ℕ, zero, suc, List, [], ◌∷◌, ◌++◌, Option, Some, None, refl, sym, ap, ◌∙◌, subst, arith}
+use Rattle.std.proofs.Common.{◌≡◌, ◌<◌, ◌≤◌, ◌+◌, ◌-◌, append_assoc, ℕ, zero, suc, List, [], ◌∷◌, ◌++◌, Option, Some, None, refl, sym, ap, ◌∙◌, subst, arith}
 use Rattle.mg_script.specs.declared.line.Line.{Line}
 use Rattle.mg_floor.specs.Scripts.{before, cut_from, own_line, own_of}
 
@@ -22,26 +22,38 @@ cut_on scripts n s lines all less is =
     append_more scripts (own_of s lines) (cut_from (n - (s + 1)) (s + 1) lines)
     ∙ ap (λ (more : List (List Line)). scripts ++ more) (sym (cut_next n s lines less)) ∙ is
 
-pub own_on : (own : List Line) (s : ℕ) (line : Line) (later all : List Line) (x : Line) → own_line s line ≡ Some x
-    → own ++ own_of s (line ∷ later) ≡ all → (own ++ x ∷ []) ++ own_of s later ≡ all
-own_on own s line later all x taken is =
-    append_more own x (own_of s later)
-    ∙ ap (λ (o : Option Line). own ++ before o (own_of s later)) (sym taken) ∙ is
+before_split : (x : Option Line) (ys : List Line) → before x ys ≡ before x [] ++ ys
+before_split None ys = refl
+before_split (Some line) ys = refl
 
-pub own_past : (own : List Line) (s : ℕ) (line : Line) (later all : List Line) → own_line s line ≡ None
-    → own ++ own_of s (line ∷ later) ≡ all → own ++ own_of s later ≡ all
-own_past own s line later all none is = ap (λ (o : Option Line). own ++ before o (own_of s later)) (sym none) ∙ is
+-- one line more
+pub own_on : (own next : List Line) (s : ℕ) (rest later all : List Line) (line : Line) → rest ≡ line ∷ later
+    → next ≡ own ++ before (own_line s line) [] → own ++ own_of s rest ≡ all → next ++ own_of s later ≡ all
+own_on own next s rest later all line split put is =
+    ap (λ (m : List Line). m ++ own_of s later) put
+    ∙ append_assoc own (before (own_line s line) []) (own_of s later)
+    ∙ ap (λ (m : List Line). own ++ m) (sym (before_split (own_line s line) (own_of s later)))
+    ∙ ap (λ (xs : List Line). own ++ own_of s xs) (sym split) ∙ is
 
 append_none : {A : Type 0} (xs : List A) → xs ++ [] ≡ xs
 append_none [] = refl
 append_none (x ∷ xs) = ap (λ ys. x ∷ ys) (append_none xs)
 
 -- behind the last session
-pub cut_all : (scripts : List (List Line)) (n s : ℕ) (lines : List Line) (all : List (List Line)) → n ≡ s
+pub cut_all : (scripts : List (List Line)) (n s : ℕ) (lines : List Line) (all : List (List Line)) → n ≤ s
     → scripts ++ cut_from (n - s) s lines ≡ all → scripts ≡ all
-cut_all scripts n s lines all same is =
+cut_all scripts n s lines all past is =
     sym (append_none scripts)
-    ∙ ap (λ (k : ℕ). scripts ++ cut_from k s lines) (none n s same) ∙ is
+    ∙ ap (λ (k : ℕ). scripts ++ cut_from k s lines) (none n s past) ∙ is
   where
-    none : (n s : ℕ) → n ≡ s → 0 ≡ n - s
-    none n s same = omega (arith, same)
+    none : (n s : ℕ) → n ≤ s → 0 ≡ n - s
+    none n s past = omega (arith, past)
+
+-- one session more, whose lines were put behind
+pub cut_put : (scripts next : List (List Line)) (own : List Line) (n s : ℕ) (lines : List Line)
+    (all : List (List Line)) → s < n → next ≡ scripts ++ own ∷ [] → own ≡ own_of s lines
+    → scripts ++ cut_from (n - s) s lines ≡ all → next ++ cut_from (n - (s + 1)) (s + 1) lines ≡ all
+cut_put scripts next own n s lines all less put is_own is =
+    ap (λ (m : List (List Line)). m ++ cut_from (n - (s + 1)) (s + 1) lines)
+    (put ∙ ap (λ (x : List Line). scripts ++ x ∷ []) is_own)
+    ∙ cut_on scripts n s lines all less is

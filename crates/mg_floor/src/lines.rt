@@ -1,8 +1,8 @@
 //! The lines of one session.
 
-ghost use Rattle.std.specs.Prelude.{◌≡◌, IfOk, length};
+ghost use Rattle.std.specs.Prelude.{◌≡◌, ◌++◌, ◌∷◌, [], IfOk, OnOk, length};
 ghost use Rattle.mg_script.specs.declared.line.TheConstants.{SESSIONS};
-ghost use Rattle.mg_floor.specs.Scripts.{AreOwnLines, cut_from, own_line as own_line_of, own_of};
+ghost use Rattle.mg_floor.specs.Scripts.{AreOwnLines, before, cut_from, own_line as own_line_of, own_of};
 
 use mg_base::Memory;
 use mg_script::{Line, LineKind, SESSIONS, Session};
@@ -52,7 +52,8 @@ pub fn by_session(alloc: Global, lines: &[Line]) -> Result<Vec<SessionLines>, Me
 {
     let mut scripts = Vec::new(alloc);
     for session in 0..SESSIONS {
-        scripts.push(own_lines(alloc, lines, Session(session))?)?;
+        let own = own_lines(alloc, lines, Session(session))?;
+        scripts.push(own)?;
     }
     Ok(scripts)
 }
@@ -64,12 +65,33 @@ fn own_lines(alloc: Global, lines: &[Line], session: Session) -> Result<SessionL
     let mut own = Vec::new(alloc);
     let mut rest = lines;
     while let Some((line, later)) = rest.split_first() {
-        if let Some(copy) = own_line(alloc, line, session)? {
-            own.push(copy)?;
-        }
+        put_if_own(alloc, line, session, &mut own)?;
         rest = later;
     }
     Ok(SessionLines { lines: own })
+}
+
+// Puts a copy of a line behind others, where it is a statement of this session.
+fn put_if_own(
+    alloc: Global,
+    line: &Line,
+    session: Session,
+    own: &mut Vec<Line>,
+) -> Result<(), Memory>
+    ensures { OnOk result (own.new.items ≡ own.old.items ++ before (own_line_of session.0 line.now) []) }
+{
+    match own_line(alloc, line, session)? {
+        Some(copy) => put_line(own, copy),
+        None => Ok(()),
+    }
+}
+
+// Puts a line behind others.
+fn put_line(own: &mut Vec<Line>, line: Line) -> Result<(), Memory>
+    ensures { OnOk result (own.new.items ≡ own.old.items ++ line ∷ []) }
+{
+    own.push(line)?;
+    Ok(())
 }
 
 // A copy of a line, where it is a statement of this session.

@@ -1,5 +1,5 @@
 use Rattle.mg_floor.specs.ComingLaws.{comes_still}
-use Rattle.mg_floor.proofs.stage.Stage.go_on.Goals as goal
+use Rattle.mg_floor.proofs.stage.Stage+R+R+Run.go_on.Goals as goal
 
 pub returns-then-lt-MOST_POLLS-clause-comes : goal.returns-then-lt-MOST_POLLS-clause-comes
 returns-then-lt-MOST_POLLS-clause-comes g c =

@@ -3,7 +3,7 @@ use Rattle.mg_courses.specs.BesideLaws.{works_stay_at, works_stay_ready}
 use Rattle.mg_floor.specs.declared.board.Board.{Board}
 use Rattle.mg_floor.specs.Coming.{Comes, IsStage}
 use Rattle.mg_floor.specs.ComingLaws.{read_comes, read_ready, stopped_with, with_keeper}
-use Rattle.mg_floor.proofs.stage.Stage.write.Goals as goal
+use Rattle.mg_floor.proofs.stage.Stage+R+R+Run.write.Goals as goal
 
 pub returns-in-Ok-clause-comes : goal.returns-in-Ok-clause-comes
 returns-in-Ok-clause-comes g c =

@@ -2,7 +2,7 @@ use Rattle.std.proofs.Common.{sym, ap, ◌∙◌}
 use Rattle.mg_interleavings.specs.declared.answered.Answered.TheVariants.{Replied}
 use Rattle.mg_floor.specs.ComingLaws.{comes_still}
 use Rattle.mg_floor.proofs.StageLemmas.{comes_by, line_passed, stage_by, take_turns}
-use Rattle.mg_floor.proofs.stage.Stage.take_line.Goals as goal
+use Rattle.mg_floor.proofs.stage.Stage+R+R+Run.take_line.Goals as goal
 
 pub returns-in-None-clause-comes : goal.returns-in-None-clause-comes
 returns-in-None-clause-comes g c =

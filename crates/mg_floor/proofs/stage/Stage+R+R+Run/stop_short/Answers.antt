@@ -1,5 +1,5 @@
 use Rattle.mg_floor.specs.ComingLaws.{comes_still, stop_comes, stop_ready}
-use Rattle.mg_floor.proofs.stage.Stage.stop_short.Goals as goal
+use Rattle.mg_floor.proofs.stage.Stage+R+R+Run.stop_short.Goals as goal
 
 pub returns-in-Some-clause-comes : goal.returns-in-Some-clause-comes
 returns-in-Some-clause-comes g c =

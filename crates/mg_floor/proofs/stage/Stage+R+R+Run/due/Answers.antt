@@ -1,5 +1,5 @@
 use Rattle.mg_floor.specs.ComingLaws.{comes_still}
-use Rattle.mg_floor.proofs.stage.Stage.due.Goals as goal
+use Rattle.mg_floor.proofs.stage.Stage+R+R+Run.due.Goals as goal
 
 pub returns-then-ge-clause-comes : goal.returns-then-ge-clause-comes
 returns-then-ge-clause-comes g c =

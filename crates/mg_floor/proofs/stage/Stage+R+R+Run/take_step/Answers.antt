@@ -1,6 +1,6 @@
 use Rattle.mg_interleavings.specs.declared.answered.Answered.TheVariants.{Replied}
 use Rattle.mg_floor.proofs.StageLemmas.{comes_by, stage_by, step_turns}
-use Rattle.mg_floor.proofs.stage.Stage.take_step.Goals as goal
+use Rattle.mg_floor.proofs.stage.Stage+R+R+Run.take_step.Goals as goal
 
 pub returns-clause-comes : goal.returns-clause-comes
 returns-clause-comes g c =

@@ -1,5 +1,5 @@
 use Rattle.mg_floor.proofs.StageLemmas.{comes_by, stage_by, try_turns}
-use Rattle.mg_floor.proofs.stage.Stage.try_again.Goals as goal
+use Rattle.mg_floor.proofs.stage.Stage+R+R+Run.try_again.Goals as goal
 
 pub returns-clause-comes : goal.returns-clause-comes
 returns-clause-comes g c =

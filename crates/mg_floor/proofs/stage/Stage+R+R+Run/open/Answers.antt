@@ -1,5 +1,5 @@
 use Rattle.mg_floor.proofs.StartLemmas.{open_ready, open_stands}
-use Rattle.mg_floor.proofs.stage.Stage.open.Goals as goal
+use Rattle.mg_floor.proofs.stage.Stage+R+R+Run.open.Goals as goal
 
 pub returns-clause-ready : goal.returns-clause-ready
 returns-clause-ready g c =

@@ -1,7 +1,7 @@
 use Rattle.std.proofs.Common.{◌<◌, List, length, ◌∙◌, subst, sym}
 use Rattle.mg_interleavings.specs.Standings.{Scripts}
 use Rattle.mg_floor.specs.ComingLaws.{board_stays, comes_on, stage_stays, with_board}
-use Rattle.mg_floor.proofs.stage.Stage.make_room.Goals as goal
+use Rattle.mg_floor.proofs.stage.Stage+R+R+Run.make_room.Goals as goal
 
 pub step-requires-clause-stage : goal.step-requires-clause-stage
 step-requires-clause-stage g c =
