@@ -1,0 +1,4 @@
+pub mod Released
+pub mod TreesStay
+pub mod StaySound
+pub mod StayHeld

@@ -1,0 +1,17 @@
+//! What holds of an image from which orphan pages were released, as laws of definitions.
+//!
+//! Owns: that a sound image stays sound, by the same layout and the same records, and that opening it
+//! gives what it gave, whichever pages that are marked as used and that nothing reaches were
+//! released. So each image that a crash leaves between the writes of page inventory pages, with the
+//! bits of some of them cleared, is sound and holds the same.
+//!
+//! Invariant: none, it keeps no state.
+//! Below: `mg_release`, for what is released; `mg_image`, for what a sound image is;
+//! `mg_image_overlays`, for the kinds of linked pages. Above: nobody yet; the command that writes the
+//! pages.
+//! Not here: which pages are reached, and the deed.
+#![tactic(auto)]
+
+mod laws;
+
+pub use laws::{opened_images_stay, sound_images_stay};
