@@ -135,22 +135,23 @@ module _ {D : Type 0} (m : Meaning D) (counts_to : ℕ) where
       rises_so before now zero (inl rises) = inl (omega (arith, none, zero, rises))
       rises_so before now zero (inr end) = inr (omega (arith, zero, end))
 
-      -- where the fuse refused no page write, it was the disk that failed: in a read,
+      -- a page write that the fuse refused counts as failed: so it is no read fault, which is the disk's own,
       by_read : FailsWith (stopped_meaning m counts_to) old new (refusals.DiskRead 0)
           → FailsWith m (inner_of old) (inner_of new) (refusals.DiskRead 0)
-          ⊎ AsksExactly m counts_to most (inner_of old) (inner_of new)
+          ⊎ (m.failed_writes (inner_of new) < m.failed_writes (inner_of old))
       by_read rose = at (cases_eq (blown_of new) 0)
         where
           at : (blown_of new ≡ 0) ⊎ (blown_of new ≢ 0) → FailsWith m (inner_of old) (inner_of new) (refusals.DiskRead 0)
-              ⊎ AsksExactly m counts_to most (inner_of old) (inner_of new)
+              ⊎ (m.failed_writes (inner_of new) < m.failed_writes (inner_of old))
           at (inl zero) = inl (
             rises_so (m.faults (inner_of old)) (m.faults (inner_of new)) zero rose.0,
             (let same : m.failed_writes (inner_of new) + blown_of new ≡ m.failed_writes (inner_of old) + blown_of old = rose.1 in
                 omega (arith, none, zero, same)),
           )
-          at (inr some) = inr (within.all (omega (arith, some)))
+          at (inr some) = inr (let same : m.failed_writes (inner_of new) + blown_of new
+              ≡ m.failed_writes (inner_of old) + blown_of old = rose.1 in omega (arith, none, some, same))
 
-      -- or in a page write
+      -- where the fuse refused no page write, it was the disk that failed in one
       by_write : FailsWith (stopped_meaning m counts_to) old new (refusals.DiskWrite 0)
           → FailsWith m (inner_of old) (inner_of new) (refusals.DiskWrite 0)
           ⊎ AsksExactly m counts_to most (inner_of old) (inner_of new)

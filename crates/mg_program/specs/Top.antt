@@ -1,5 +1,5 @@
 -- What the program promises of a command line.
-use Rattle.std.specs.Prelude.{◌≡◌, ◌≤◌, ◌⊎◌, ℕ, List, [], ◌∷◌, ◌++◌, Option, None, Some, codes, unwrap_or}
+use Rattle.std.specs.Prelude.{◌≡◌, ◌<◌, ◌≤◌, ◌⊎◌, ℕ, List, [], ◌∷◌, ◌++◌, Option, None, Some, codes, unwrap_or}
 use Rattle.mg_base.specs.Disk.{FailsNoWrite, Meaning, Rose}
 use Rattle.mg_base.specs.Image.{Image}
 use Rattle.mg_base.specs.Streams.{SinkMeaning, SourceMeaning}
@@ -30,11 +30,13 @@ pub record IsUsage {D S K : Type 0} (n : SinkMeaning K) (shelf shelf' : D) (sour
 
 -- ---- a run
 
--- With `--stop` a refusal by the disk comes only where its count of faults rose, or where all page writes had passed that
--- may; any other only where that count has not risen. Else a read fault is told only where no page write failed, and a
--- write fault, and that the disk is offline, only where one did.
+-- With `--stop` a read fault is told only as without it: where the count of faults rose, and no page write failed. (A count
+-- of failed page writes that falls is no disk's: `never_falls`.) A write fault, and that the disk is offline, is told only
+-- where a page write failed, or where all had passed that may; any other refusal only where the count of faults has not
+-- risen.
 abbrev pub FailsOrStops : {D : Type 0} → Meaning D → Type 0 → D → D → Refusal → Type 0
-FailsOrStops m All old new (refusals.DiskRead faults) = (Rose (m.faults old) (m.faults new) × FailsNoWrite m old new) ⊎ All
+FailsOrStops m All old new (refusals.DiskRead faults) =
+    (Rose (m.faults old) (m.faults new) × FailsNoWrite m old new) ⊎ (m.failed_writes new < m.failed_writes old)
 FailsOrStops m All old new (refusals.DiskWrite faults) =
     (Rose (m.faults old) (m.faults new) × Rose (m.failed_writes old) (m.failed_writes new)) ⊎ All
 FailsOrStops m All old new (refusals.Offline faults) =
