@@ -61,6 +61,13 @@ pub scans_fit : {D : Type 0} (m : Meaning D) (old new : Core D) (t : TxNo) (tabl
 scans_fit m old new t table after (Ok found) is = is.fits
 scans_fit m old new t table after (Err refusal) is = tt
 
+-- what was visited is handed on
+pub still_scans : {D : Type 0} (m : Meaning D) (old new : Core D) (t : TxNo) (table : Table) (after : Option Place)
+    (result visited : Result (Option (Found Place)) Refusal) → result ≡ visited
+    → Scans m old new t table after visited → Scans m old new t table after result
+still_scans {D} m old new t table after result visited same =
+    subst (λ (r : Result (Option (Found Place)) Refusal). Scans m old new t table after r) (sym same)
+
 -- ---- a table that was given may be given
 
 among_given : (tables : List Table) (name : List ℕ) (table : Table) → AllMayBeGiven tables
@@ -115,10 +122,10 @@ module _ {D : Type 0} (m : Meaning D) (inside old new : Core D) (same : inside �
 -- a visit of a walk to which rows are to come finds no page damaged
 pub visits_undamaged : {D : Type 0} (m : Meaning D) (inside old new : Core D) → inside ≡ old → VisitsMeetNone D m
     → (t : TxNo) (table : Table) (passed after : Option Place) (result : Result (Option (Found Place)) Refusal)
-    → passed ≡ after → IsShortPlace after → Scans m inside new t table passed result
+    → passed ≡ after → IsShortPlace passed → Scans m inside new t table passed result
     → (rows : KeyedRows) → (means m core_places).to_come old t.0 table after rows
     → MeetsNoDamage (means m core_places) old new
 visits_undamaged {D} m inside old new same law t table passed after result is_it short scans rows comes =
-    law core_places old new t table after rows result places_ranked short comes
+    law core_places old new t table after rows result places_ranked (subst IsShortPlace is_it short) comes
     (subst (λ (place : Option Place). Scans m old new t table place result) is_it
     (subst (λ (c : Core D). Scans m c new t table passed result) same scans))

@@ -9,7 +9,7 @@ ghost use Rattle.mg_engine.specs.KeeperLaws.{sessions_are_one, walks_come_to_all
 use crate::changing::{changes_go_on, write_row};
 use crate::engine::Engine;
 use crate::making::{note_columns, note_name};
-use crate::sizes::{copy_place, counts_fit, in_rank, is_short, tell_counts};
+use crate::sizes::{copy_place, counts_fit, ranked, slots_fit, tell_counts};
 use crate::taking::{take_to_mark, take_to_savepoint};
 use crate::writing::note_write;
 use mg_base::{Disk, Memory, TxNo};
@@ -107,10 +107,10 @@ impl<D: Disk> Records for Engine<D> {
         visits_meet_no_damage::<D>();
         readings_take_none::<D>();
         counts_fit(self.core.damage, self.core.shortages);
-        is_short(after);
-        let visited = self.core.scan_step(t, table, after.copied());
-        in_rank(&visited);
-        visited
+        let place = after.copied();
+        slots_fit(place);
+        let visited = self.core.scan_step(t, table, place);
+        ranked(visited)
     }
 
     /// Tells what a statement found: the rows are those that the machine finds.

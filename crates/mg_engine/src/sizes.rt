@@ -1,11 +1,9 @@
 //! What is known of places, and of counts, by their sizes.
 
-ghost use Rattle.std.specs.Prelude.{◌≡◌, ◌<◌, ◌^◌, Some, Ok};
-ghost use Rattle.std.specs.Option.{option_copied};
+ghost use Rattle.std.specs.Prelude.{◌≡◌, ◌<◌, ◌^◌, Ok};
 ghost use Rattle.mg_engine_meaning.specs.Counts.{HasCounts};
 ghost use Rattle.mg_engine_meaning.specs.Reads.{IsInRank};
 ghost use Rattle.mg_no_damage.specs.Walks.{IsShortPlace};
-ghost use Rattle.mg_core.specs.Scanning.{rank};
 
 use mg_base::{Disk, Memory};
 use mg_core::{Core, Place};
@@ -37,30 +35,17 @@ pub(crate) fn tell_counts<D: Disk>(core: &Core<D>)
     let _shortages = core.shortages;
 }
 
-/// The place that was found has a rank of six bytes.
-pub(crate) fn in_rank(visited: &Result<Option<Found<Place>>, Refusal>)
-    ensures { IsInRank visited.now }
+/// What a visit has come to: the place has a rank of six bytes, as each place has.
+pub(crate) fn ranked(
+    visited: Result<Option<Found<Place>>, Refusal>,
+) -> Result<Option<Found<Place>>, Refusal>
+    ensures rank { IsInRank result }
+    ensures same { result ≡ visited }
 {
-    if let Ok(Some(found)) = visited {
-        rank_fits(found.place);
-    }
+    visited
 }
-
-/// A rank has six bytes.
-fn rank_fits(place: Place)
-    ensures { rank place < 2 ^ 48 }
-{}
 
 /// The slot of a place has two bytes.
-pub(crate) fn is_short(after: Option<&Place>)
-    ensures { IsShortPlace (option_copied after.entry) }
-{
-    if let Some(place) = after {
-        slot_fits(*place);
-    }
-}
-
-/// A slot has two bytes.
-fn slot_fits(place: Place)
-    ensures { place.rec.slot < 65536 }
+pub(crate) fn slots_fit(place: Option<Place>)
+    ensures { IsShortPlace place }
 {}
