@@ -12,6 +12,7 @@ pub mod StandLemmas
 pub mod ChainLemmas
 pub mod ApartLemmas
 pub mod HandedLemmas
+pub mod HoldingLemmas
 pub mod PageLemmas
 pub mod EntryLemmas
 pub mod LastRoomLemmas

@@ -1,5 +1,5 @@
 -- The pages of a table: the chain of its pointer pages, and the data pages that they list.
-use Rattle.std.specs.Prelude.{◌≡◌, ◌-◌, ◌≢◌, ◌<◌, ◌≤◌, ◌⊎◌, ℕ, List, [], ◌∷◌, ◌++◌, length, Err}
+use Rattle.std.specs.Prelude.{◌≡◌, ◌-◌, ◌≢◌, ◌<◌, ◌≤◌, ◌⊎◌, ℕ, List, [], ◌∷◌, ◌++◌, length, Some, Err}
 use Rattle.mg_base.specs.Checks.{PassesAll, verdict}
 use Rattle.mg_base.specs.Disk.{Meaning}
 use Rattle.mg_base.specs.declared.damage.Damaged.{Damaged}
@@ -8,9 +8,10 @@ use Rattle.mg_base.specs.declared.geometry.TheConstants.{GREATEST_LIMIT}
 use Rattle.mg_base.specs.declared.numbers.PageNo.{PageNo}
 use Rattle.mg_image.specs.Form.{Pages}
 use Rattle.mg_image.specs.Tables.{EachFrom, Has, PointerChain, entries_in}
-use Rattle.mg_pointer.specs.PointerPage.{entries_of, next_in, pointer_checks}
+use Rattle.mg_pointer.specs.PointerPage.{IsPointerPage, entries_of, next_in, pointer_checks}
 use Rattle.mg_pool.specs.declared.batch.BatchPage.{BatchPage}
 use Rattle.mg_pool.specs.declared.pool.Pool.{Pool}
+use Rattle.mg_space.specs.Lawful.{readable}
 use Rattle.mg_space.specs.declared.fault.SpaceFault.{SpaceFault}
 use Rattle.mg_space.specs.declared.fault.SpaceFault.TheVariants as faults
 use Rattle.mg_heap.specs.Reading.{IsAbsence}
@@ -73,6 +74,14 @@ RefusesPointerPage m store batch b owner at n (faults.Full limit) = ⊥
 RefusesPointerPage m store batch b owner at n (faults.Damaged damage) =
     IsAbsence m store batch n damage ⊎ (verdict n (pointer_checks b n.0 owner at) ≡ Err damage)
 RefusesPointerPage m store batch b owner at n (faults.Pool fault) = Unit {0}
+
+-- a page is readable, and is the pointer page of an owner at a place of its chain
+pub record HoldsPointer {D L : Type 0} (store : Pool D L) (batch : List BatchPage) (owner at : ℕ)
+    (n : PageNo) : Type 0 where
+  pub bytes : List ℕ
+  pub read : readable store batch n.0 ≡ Some bytes
+  pub tested : PassesAll (pointer_checks bytes n.0 owner at)
+  pub lawful : IsPointerPage bytes
 
 -- why a pointer page is not followed, but for faults of the cache
 abbrev pub RefusesPointer : {D L : Type 0} → Meaning D → Pool D L → List BatchPage → Pages → ℕ

@@ -1,5 +1,5 @@
 -- The walk over the records of a table, in the order of its data pages and their slots.
-use Rattle.std.specs.Prelude.{◌≡◌, ◌≢◌, ◌<◌, ◌≤◌, ◌⊎◌, ◌+◌, ◌==◌, ◌||◌, ℕ, Bool, true, false, List, [], ◌∷◌, Option, None, Some, length, slice_index, if◌then◌else◌}
+use Rattle.std.specs.Prelude.{◌≡◌, ◌≢◌, ◌<◌, ◌≤◌, ◌⊎◌, ◌+◌, ◌==◌, ◌||◌, ℕ, Bool, true, false, List, [], ◌∷◌, Option, None, Some, length, slice_index, Ok, if◌then◌else◌}
 use Rattle.mg_base.specs.Disk.{Meaning}
 use Rattle.mg_base.specs.Fields.{byte}
 use Rattle.mg_base.specs.declared.numbers.PageNo.{PageNo}
@@ -9,7 +9,10 @@ use Rattle.mg_image.specs.declared.entry.TheConstants.{PRIMARY_VERSION}
 use Rattle.mg_pool.specs.declared.batch.BatchPage.{BatchPage}
 use Rattle.mg_pool.specs.declared.pool.Pool.{Pool}
 use Rattle.mg_slots.specs.Damage.{IsFirstDamage}
-use Rattle.mg_slots.specs.DataPage.{cell_of}
+use Rattle.mg_slots.specs.DataPage.{IsDataPage, cell_of}
+use Rattle.mg_slots.specs.Verdict.{common_verdict}
+use Rattle.mg_slots.specs.declared.page.TheConstants.{DATA_KIND}
+use Rattle.mg_space.specs.Lawful.{readable}
 use Rattle.mg_version.specs.declared.cell.TheConstants.{ANCHOR}
 use Rattle.mg_space.specs.declared.fault.SpaceFault.{SpaceFault}
 use Rattle.mg_space.specs.declared.fault.SpaceFault.TheVariants as faults
@@ -106,6 +109,14 @@ RefusesTableData m store batch b owner at n (faults.Full limit) = ⊥
 RefusesTableData m store batch b owner at n (faults.Damaged damage) =
     IsAbsence m store batch n damage ⊎ IsFirstDamage b n owner at damage
 RefusesTableData m store batch b owner at n (faults.Pool fault) = Unit {0}
+
+-- a page is readable, and is the data page of an owner at a place
+pub record HoldsTableData {D L : Type 0} (store : Pool D L) (batch : List BatchPage) (owner at : ℕ)
+    (n : PageNo) : Type 0 where
+  pub bytes : List ℕ
+  pub read : readable store batch n.0 ≡ Some bytes
+  pub common : common_verdict bytes n DATA_KIND owner at ≡ Ok tt
+  pub lawful : IsDataPage bytes
 
 -- One of the listed data pages is not as wanted at its place.
 pub record IsBrokenPage {D L : Type 0} (m : Meaning D) (store : Pool D L) (batch : List BatchPage)

@@ -11,11 +11,11 @@ ghost use Rattle.mg_heap.specs.Places.{FindsPlace, HasCount, IsFew, IsPageIn, Lo
 ghost use Rattle.mg_heap.specs.Reading.{ReadsData};
 ghost use Rattle.mg_heap.specs.Table.{RefusesPointer, RefusesTable};
 
-use crate::table::{linked, pointer_page};
+use crate::table::{hold_pointer, linked};
 use mg_base::{Disk, GREATEST_LIMIT, PageNo, get_u16};
 use mg_pointer::{COUNT_AT, entry};
 use mg_pool::Batch;
-use mg_space::{SpaceFault, Store};
+use mg_space::{SpaceFault, Store, lent};
 
 /// What a pointer page says of the data page that so many entries lead to, counted from its first one.
 #[derive(Debug, Drop)]
@@ -189,13 +189,14 @@ fn look_up<D: Disk>(
         (RefusesPointer D.meaning store.new batch.now.pages (viewed store.old image batch.now)
         owner.0 pointers.old.items n) }
 {
-    let page = pointer_page(store, batch, owner, n, pointers.len() as u32)?;
-    if let Some(found) = entry_at(page.as_slice(), rest) {
+    hold_pointer(store, batch, owner, n, pointers.len() as u32)?;
+    let page = lent(store, batch, n);
+    if let Some(found) = entry_at(page, rest) {
         return Ok(Look::Here(found));
     }
     pointers.push(n.0)?;
-    let next = linked(page.as_slice(), n, pointers)?;
-    let left = rest - entry_count(page.as_slice());
+    let next = linked(page, n, pointers)?;
+    let left = rest - entry_count(page);
     Ok(Look::Past(left, next))
 }
 

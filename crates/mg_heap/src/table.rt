@@ -1,6 +1,6 @@
 //! The pages of a table are found: its pointer pages and the data pages that they list.
 
-ghost use Rattle.std.specs.Prelude.{◌≡◌, ◌≢◌, ◌≤◌, ◌<◌, ◌^◌, ◌+◌, ◌++◌, ◌↔◌, IfOk, IsTrue, MatchResult, OnOk, length};
+ghost use Rattle.std.specs.Prelude.{◌≡◌, ◌≢◌, ◌≤◌, ◌<◌, ◌^◌, ◌+◌, ◌++◌, ◌↔◌, IfErr, IfOk, IsTrue, MatchResult, OnOk, length};
 ghost use Rattle.mg_base.specs.Checks.{PassesAll, verdict};
 ghost use Rattle.mg_base.specs.Image.{Image};
 ghost use Rattle.mg_image.specs.Tables.{Has};
@@ -12,12 +12,12 @@ ghost use Rattle.mg_space.specs.Taking.{IsGeometry};
 ghost use Rattle.mg_space.specs.View.{AreWhole, KeepsStore, Tells, pool_answer, viewed};
 ghost use Rattle.mg_heap.specs.Reading.{ReadsData};
 ghost use Rattle.mg_heap.specs.Reads.{ReadsListed};
-ghost use Rattle.mg_heap.specs.Table.{FollowsPage, IsLinkDamage, IsTable, LinksTo, ListsPage, RefusesPointer, RefusesPointerPage, RefusesTable, link_damage};
+ghost use Rattle.mg_heap.specs.Table.{FollowsPage, HoldsPointer, IsLinkDamage, IsTable, LinksTo, ListsPage, RefusesPointer, RefusesPointerPage, RefusesTable, link_damage};
 
 use mg_base::{Bytes, Damaged, Disk, Field, GREATEST_LIMIT, Memory, PageNo, get_u16, get_u32};
 use mg_pointer::{COUNT_AT, ENTRIES_AT, ENTRY_LEN, check_pointer, next_of};
 use mg_pool::Batch;
-use mg_space::{SpaceFault, Store, page_of};
+use mg_space::{SpaceFault, Store, hold, lent};
 
 /// The pages of a table, in the order of their places.
 #[derive(Debug, Drop)]
@@ -103,17 +103,48 @@ pub(crate) fn follow<D: Disk>(
         owner.0 pointers.old.items n) }
     ensures reads { Fetches D.meaning store.old store.new n.0 }
 {
-    let page = pointer_page(store, batch, owner, n, pointers.len() as u32)?;
-    add_entries(page.as_slice(), data_pages)?;
+    hold_pointer(store, batch, owner, n, pointers.len() as u32)?;
+    let page = lent(store, batch, n);
+    add_entries(page, data_pages)?;
     pointers.push(n.0)?;
-    Ok(linked(page.as_slice(), n, pointers)?)
+    Ok(linked(page, n, pointers)?)
 }
 
-/// The content of the pointer page of an owner at a place of its chain.
+/// Makes the pointer page of an owner at a place of its chain readable: `lent` lends its bytes then.
 ///
 /// # Errors
 ///
 /// As `table_pages`, of this page, but for its link.
+pub(crate) fn hold_pointer<D: Disk>(
+    store: &mut Store<D>,
+    batch: &Batch,
+    owner: PageNo,
+    n: PageNo,
+    at: u32,
+) -> Result<(), SpaceFault>
+    requires pool { IsPool D.meaning store.old }
+    requires geometry { IsGeometry store.old.geometry }
+    requires whole { AreWhole store.old.geometry batch.now.pages }
+
+    ensures keeps { KeepsStore D.meaning store.old store.new }
+    ensures fault { TellsFault D.meaning store.old store.new (pool_answer result) }
+    ensures own { ReadsData result }
+    ensures held { OnOk result (HoldsPointer store.new batch.now.pages owner.0 at n) }
+    ensures seen { (image : Image) → Tells D.meaning store.old.disk image → IfErr result
+        (RefusesPointerPage D.meaning store.new batch.now.pages
+        (viewed store.old image batch.now n.0) owner.0 at n) }
+    ensures reads { Fetches D.meaning store.old store.new n.0 }
+{
+    hold(store, batch, n)?;
+    check_chain_page(lent(store, batch, n), n, owner.0, at)?;
+    Ok(())
+}
+
+/// A copy of the pointer page of an owner at a place of its chain, for one who changes it.
+///
+/// # Errors
+///
+/// As `hold_pointer`.
 pub(crate) fn pointer_page<D: Disk>(
     store: &mut Store<D>,
     batch: &Batch,
@@ -138,9 +169,9 @@ pub(crate) fn pointer_page<D: Disk>(
         (viewed store.old image batch.now n.0) owner.0 at n) }
     ensures reads { Fetches D.meaning store.old store.new n.0 }
 {
-    let page = page_of(store, batch, n)?;
-    check_chain_page(page.as_slice(), n, owner.0, at)?;
-    Ok(page)
+    hold_pointer(store, batch, owner, n, at)?;
+    let bytes = lent(store, batch, n);
+    Ok(Bytes::new(Vec::from_slice(store.alloc(), bytes)?))
 }
 
 /// Tests a pointer page, as one that may be read then.

@@ -1,6 +1,7 @@
 //! The walk over the records of a table.
 
 ghost use Rattle.std.specs.Prelude.{◌≡◌, ◌≤◌, ◌<◌, ◌^◌, ◌==◌, ◌||◌, [], None, Some, IfErr, IfOk, MatchResult, OnOk, Ok, drop, length};
+ghost use Rattle.std.specs.Bool.{OnTrue};
 ghost use Rattle.mg_base.specs.Fields.{byte};
 ghost use Rattle.mg_base.specs.Image.{Image};
 ghost use Rattle.mg_pool.specs.Fault.{TellsFault};
@@ -12,16 +13,18 @@ ghost use Rattle.mg_slots.specs.Verdict.{common_verdict};
 ghost use Rattle.mg_space.specs.Taking.{IsGeometry};
 ghost use Rattle.mg_space.specs.View.{AreWhole, KeepsStore, Tells, pool_answer, viewed};
 ghost use Rattle.mg_heap.specs.Reading.{ReadsData, sequence_in};
-ghost use Rattle.mg_heap.specs.Walk.{FindsRecord, GivesBehind, GivesFrom, GivesNext, RefusesBehind, RefusesFrom, RefusesNext, RefusesTableData, is_primary as is_primary_of};
+ghost use Rattle.mg_heap.specs.Walk.{FindsRecord, GivesBehind, GivesFrom, GivesNext, HoldsTableData, RefusesBehind, RefusesFrom, RefusesNext, RefusesTableData, is_primary as is_primary_of};
 
 use crate::lookup::data_page_at;
 use crate::reach::unlisted;
 use crate::reading::hold_data;
-use mg_base::{Bytes, Damaged, Disk, GREATEST_LIMIT, PageNo, RecId, SEQUENCE_AT, get_u32};
+use mg_base::{
+    Bytes, Damaged, Disk, GREATEST_LIMIT, PageNo, RecId, SEQUENCE_AT, check_common, get_u32,
+};
 use mg_image::PRIMARY_VERSION;
 use mg_pool::Batch;
 use mg_slots::{DATA_KIND, GREATEST_SIZE, LEAST_SIZE, cell, slots};
-use mg_space::{SpaceFault, Store, check_page, lent, page_of};
+use mg_space::{SpaceFault, Store, check_page, hold, lent, passes};
 use mg_version::ANCHOR;
 
 /// The record behind another in the order of the table's data pages and their slots, or the first
@@ -176,8 +179,9 @@ fn first_from<D: Disk>(
     let mut place = start;
     let mut next = data_page_at(store, batch, owner, place)?;
     while let Some(n) = next {
-        let page = table_data_page(store, batch, owner, n, place)?;
-        if let Some(found) = first_record(page.as_slice(), n, 0) {
+        hold_table_data(store, batch, owner, n, place)?;
+        let page = lent(store, batch, n);
+        if let Some(found) = first_record(page, n, 0) {
             return Ok(Some(found));
         }
         place += 1;
@@ -186,7 +190,40 @@ fn first_from<D: Disk>(
     Ok(None)
 }
 
-/// The content of the data page of an owner at a place.
+/// Makes the data page of an owner at a place readable: `lent` lends its bytes then. Where the cache's
+/// mark says that it is a data page, no more than its common part is looked at.
+///
+/// # Errors
+///
+/// `Damaged` at `Presence` where the page is missing, else at the first field that differs. `Pool`
+/// with `DiskRead`, `Offline` or `Memory`.
+fn hold_table_data<D: Disk>(
+    store: &mut Store<D>,
+    batch: &Batch,
+    owner: PageNo,
+    n: PageNo,
+    at: u32,
+) -> Result<(), SpaceFault>
+    requires pool { IsPool D.meaning store.old }
+    requires geometry { IsGeometry store.old.geometry }
+    requires whole { AreWhole store.old.geometry batch.now.pages }
+
+    ensures keeps { KeepsStore D.meaning store.old store.new }
+    ensures fault { TellsFault D.meaning store.old store.new (pool_answer result) }
+    ensures own { ReadsData result }
+    ensures held { OnOk result (HoldsTableData store.new batch.now.pages owner.0 at n) }
+    ensures seen { (image : Image) → Tells D.meaning store.old.disk image → IfErr result
+        (RefusesTableData D.meaning store.new batch.now.pages
+        (viewed store.old image batch.now n.0) owner.0 at n) }
+    ensures reads { Fetches D.meaning store.old store.new n.0 }
+{
+    hold(store, batch, n)?;
+    let marked = passes(store, batch, n);
+    check_table_data(marked, lent(store, batch, n), n, owner.0, at)?;
+    Ok(())
+}
+
+/// A copy of the data page of an owner at a place.
 ///
 /// # Errors
 ///
@@ -214,19 +251,29 @@ pub fn table_data_page<D: Disk>(
         (viewed store.old image batch.now n.0) owner.0 at n) }
     ensures reads { Fetches D.meaning store.old store.new n.0 }
 {
-    let page = page_of(store, batch, n)?;
-    check_table_data(page.as_slice(), n, owner.0, at)?;
-    Ok(page)
+    hold_table_data(store, batch, owner, n, at)?;
+    let bytes = lent(store, batch, n);
+    Ok(Bytes::new(Vec::from_slice(store.alloc(), bytes)?))
 }
 
-/// Tests the data page of an owner at a place.
-fn check_table_data(b: &[u8], page: PageNo, owner: u32, at: u32) -> Result<(), Damaged>
+/// Tests the data page of an owner at a place; of one that is marked as a data page whose it is.
+fn check_table_data(
+    marked: bool,
+    b: &[u8],
+    page: PageNo,
+    owner: u32,
+    at: u32,
+) -> Result<(), Damaged>
     requires least { LEAST_SIZE ≤ length b.now }
     requires greatest { length b.now ≤ GREATEST_SIZE }
+    requires marked { OnTrue marked (IsDataPage b.now) }
     ensures common { OnOk result (common_verdict b.now page DATA_KIND owner at ≡ Ok tt) }
     ensures lawful { OnOk result (IsDataPage b.now) }
     ensures damaged { IfErr result (IsFirstDamage b.now page owner at) }
 {
+    if marked {
+        return check_common(b, page, DATA_KIND, owner, at);
+    }
     check_page(b, page, owner, at)
 }
 

@@ -1,99 +1,105 @@
+use Rattle.std.proofs.Common.{◌≡◌, ◌∙◌, List, Ok, subst, sym, ℕ}
+use Rattle.mg_image.specs.Form.{Pages}
 use Rattle.mg_slots.specs.DataPage.{IsDataPage}
-use Rattle.std.proofs.Common.{List, subst, ℕ}
+use Rattle.mg_slots.specs.Verdict.{common_verdict}
+use Rattle.mg_slots.specs.declared.page.TheConstants.{DATA_KIND}
+use Rattle.mg_heap.specs.HandedLaws.{reads_same}
 use Rattle.mg_heap.specs.Walk.{RefusesTableData}
-use Rattle.mg_heap.proofs.HandedLemmas.{fault_damage, reads_damage}
-use Rattle.mg_heap.proofs.TableLemmas.{handed_on}
-use Rattle.mg_heap.proofs.PageLemmas.{least_long, most_long, no_table_data_seen, reads_refused, table_data_refused}
-use Rattle.mg_space.specs.HandedLaws.{fault_same, no_answer}
+use Rattle.mg_heap.proofs.HandedLemmas.{reads_memory}
+use Rattle.mg_heap.proofs.HoldingLemmas.{data_common, data_lawful}
+use Rattle.mg_heap.proofs.TableLemmas.{as_started, handed_on, whole_later}
+use Rattle.mg_space.specs.HandedLaws.{fault_memory, fault_same, no_answer, out_of_memory}
 use Rattle.mg_space.specs.View.{viewed}
-use Rattle.mg_space.specs.declared.fault.SpaceFault.TheVariants as faults
 use Rattle.mg_heap.proofs.walk.table_data_page.Goals as goal
 
-pub returns-in_err-page-clause-keeps : goal.returns-in_err-page-clause-keeps
-returns-in_err-page-clause-keeps g c = c.in_err-page.ensures.keeps
+pub returns-in_err-hold_table_data-clause-keeps : goal.returns-in_err-hold_table_data-clause-keeps
+returns-in_err-hold_table_data-clause-keeps g c = c.in_err-hold_table_data.ensures.keeps
 
-pub returns-in_err-page-clause-fault : goal.returns-in_err-page-clause-fault
-returns-in_err-page-clause-fault g c = fault_same (List ℕ) g.D.Disk.meaning c.args.store.now
-    c.page_of.new.store c.from_residual.result c.in_err-page.field-0.0 c.from_residual.ensures.0
-    c.from_residual.ensures.1 c.in_err-page.ensures.fault
+pub returns-in_err-hold_table_data-clause-fault : goal.returns-in_err-hold_table_data-clause-fault
+returns-in_err-hold_table_data-clause-fault g c = fault_same (Unit {0}) g.D.Disk.meaning c.args.store.now
+    c.hold_table_data.new.store c.from_residual.result c.in_err-hold_table_data.field-0.0
+    c.from_residual.ensures.0 c.from_residual.ensures.1 c.in_err-hold_table_data.ensures.fault
 
-pub returns-in_err-page-clause-own : goal.returns-in_err-page-clause-own
-returns-in_err-page-clause-own g c = reads_refused g.D.Disk.meaning c.page_of.new.store
-    c.args.batch.now.pages c.args.n (List ℕ) c.from_residual.result c.in_err-page.field-0.0
-    c.from_residual.ensures.1 c.in_err-page.ensures.refusal
+pub returns-in_err-hold_table_data-clause-own : goal.returns-in_err-hold_table_data-clause-own
+returns-in_err-hold_table_data-clause-own g c = reads_same (Unit {0}) c.from_residual.result
+    c.in_err-hold_table_data.field-0.0 c.from_residual.ensures.0 c.from_residual.ensures.1
+    c.in_err-hold_table_data.ensures.own
 
-pub returns-in_err-page-clause-seen : goal.returns-in_err-page-clause-seen
-returns-in_err-page-clause-seen g c = λ image tells. handed_on c.from_residual.result
-    c.in_err-page.field-0.0 _ (RefusesTableData g.D.Disk.meaning c.page_of.new.store c.args.batch.now.pages
-    (viewed c.args.store.now image c.args.batch.now c.args.n.0) c.args.owner.0 c.args.at c.args.n)
-    c.from_residual.ensures.0 c.from_residual.ensures.1 (table_data_refused g.D.Disk.meaning
-    c.page_of.new.store c.args.batch.now.pages c.args.n (List ℕ) (viewed c.args.store.now image
-    c.args.batch.now c.args.n.0) c.args.owner.0 c.args.at c.in_err-page.field-0.0
-    c.in_err-page.ensures.refusal)
+pub returns-in_err-hold_table_data-clause-seen : goal.returns-in_err-hold_table_data-clause-seen
+returns-in_err-hold_table_data-clause-seen g c = λ image tells. handed_on c.from_residual.result
+    c.in_err-hold_table_data.field-0.0 _ (RefusesTableData g.D.Disk.meaning c.hold_table_data.new.store
+    c.args.batch.now.pages (viewed c.args.store.now image c.args.batch.now c.args.n.0) c.args.owner.0
+    c.args.at c.args.n) c.from_residual.ensures.0 c.from_residual.ensures.1
+    (c.in_err-hold_table_data.ensures.seen image tells)
 
-pub returns-in_err-page-clause-reads : goal.returns-in_err-page-clause-reads
-returns-in_err-page-clause-reads g c = c.in_err-page.ensures.reads
+pub returns-in_err-hold_table_data-clause-reads : goal.returns-in_err-hold_table_data-clause-reads
+returns-in_err-hold_table_data-clause-reads g c = c.in_err-hold_table_data.ensures.reads
 
-pub returns-in_err-page-clause-common : goal.returns-in_err-page-clause-common
-returns-in_err-page-clause-common g c = no_answer _ c.from_residual.result c.from_residual.ensures.0
+pub returns-in_err-hold_table_data-clause-common : goal.returns-in_err-hold_table_data-clause-common
+returns-in_err-hold_table_data-clause-common g c = no_answer _ c.from_residual.result
+    c.from_residual.ensures.0
 
-pub returns-in_err-page-clause-lawful : goal.returns-in_err-page-clause-lawful
-returns-in_err-page-clause-lawful g c = no_answer _ c.from_residual.result c.from_residual.ensures.0
+pub returns-in_err-hold_table_data-clause-lawful : goal.returns-in_err-hold_table_data-clause-lawful
+returns-in_err-hold_table_data-clause-lawful g c = no_answer _ c.from_residual.result
+    c.from_residual.ensures.0
 
-pub returns-in_err-check_table_data-clause-keeps : goal.returns-in_err-check_table_data-clause-keeps
-returns-in_err-check_table_data-clause-keeps g c = c.in_ok-page.ensures.keeps
+pub lent-bytes-requires-clause-whole : goal.lent-bytes-requires-clause-whole
+lent-bytes-requires-clause-whole g c = whole_later g.D.Disk.meaning c.args.store.now
+    c.hold_table_data.new.store c.in_ok-hold_table_data.ensures.keeps c.args.batch.now.pages c.requires.whole
 
-pub returns-in_err-check_table_data-clause-fault : goal.returns-in_err-check_table_data-clause-fault
-returns-in_err-check_table_data-clause-fault g c = fault_damage g.D.Disk.meaning c.args.store.now
-    c.page_of.new.store c.from_residual-in_err-check_table_data.result c.in_err-check_table_data.field-0.0
-    c.from_residual-in_err-check_table_data.ensures.0 c.from_residual-in_err-check_table_data.ensures.1
-    c.in_ok-page.ensures.fault
+pub returns-in_err-from_slice-clause-keeps : goal.returns-in_err-from_slice-clause-keeps
+returns-in_err-from_slice-clause-keeps g c = c.in_ok-hold_table_data.ensures.keeps
 
-pub returns-in_err-check_table_data-clause-own : goal.returns-in_err-check_table_data-clause-own
-returns-in_err-check_table_data-clause-own g c = reads_damage c.from_residual-in_err-check_table_data.result
-    c.in_err-check_table_data.field-0.0 c.from_residual-in_err-check_table_data.ensures.1
+pub returns-in_err-from_slice-clause-fault : goal.returns-in_err-from_slice-clause-fault
+returns-in_err-from_slice-clause-fault g c = fault_memory g.D.Disk.meaning c.args.store.now
+    c.hold_table_data.new.store c.from_residual-in_err-from_slice.result
+    c.from_residual-in_err-from_slice.ensures.0 c.from_residual-in_err-from_slice.ensures.1
+    c.in_ok-hold_table_data.ensures.fault
 
-pub returns-in_err-check_table_data-clause-seen : goal.returns-in_err-check_table_data-clause-seen
-returns-in_err-check_table_data-clause-seen g c = λ image tells. handed_on
-    c.from_residual-in_err-check_table_data.result (faults.Damaged c.in_err-check_table_data.field-0.0) _
-    (RefusesTableData g.D.Disk.meaning c.page_of.new.store c.args.batch.now.pages (viewed c.args.store.now
-    image c.args.batch.now c.args.n.0) c.args.owner.0 c.args.at c.args.n)
-    c.from_residual-in_err-check_table_data.ensures.0 c.from_residual-in_err-check_table_data.ensures.1
-    (no_table_data_seen g.D.Disk.meaning c.page_of.new.store c.args.batch.now.pages c.args.n
-    c.as_slice.result.now c.in_ok-page.page (viewed c.args.store.now image c.args.batch.now c.args.n.0)
-    c.args.owner.0 c.args.at c.in_err-check_table_data.field-0.0 c.as_slice.ensures
-    (c.in_ok-page.ensures.seen image tells) c.in_err-check_table_data.ensures.damaged)
+pub returns-in_err-from_slice-clause-own : goal.returns-in_err-from_slice-clause-own
+returns-in_err-from_slice-clause-own g c = reads_memory c.from_residual-in_err-from_slice.result
+    c.from_residual-in_err-from_slice.ensures.1
 
-pub returns-in_err-check_table_data-clause-reads : goal.returns-in_err-check_table_data-clause-reads
-returns-in_err-check_table_data-clause-reads g c = c.in_ok-page.ensures.reads
+pub returns-in_err-from_slice-clause-seen : goal.returns-in_err-from_slice-clause-seen
+returns-in_err-from_slice-clause-seen g c = λ image tells. handed_on
+    c.from_residual-in_err-from_slice.result out_of_memory _ (RefusesTableData g.D.Disk.meaning
+    c.hold_table_data.new.store c.args.batch.now.pages (viewed c.args.store.now image c.args.batch.now
+    c.args.n.0) c.args.owner.0 c.args.at c.args.n) c.from_residual-in_err-from_slice.ensures.0
+    c.from_residual-in_err-from_slice.ensures.1 tt
 
-pub returns-clause-reads : goal.returns-clause-reads
-returns-clause-reads g c = c.in_ok-page.ensures.reads
+pub returns-in_err-from_slice-clause-reads : goal.returns-in_err-from_slice-clause-reads
+returns-in_err-from_slice-clause-reads g c = c.in_ok-hold_table_data.ensures.reads
 
-pub returns-in_err-check_table_data-clause-common : goal.returns-in_err-check_table_data-clause-common
-returns-in_err-check_table_data-clause-common g c = no_answer _
-    c.from_residual-in_err-check_table_data.result c.from_residual-in_err-check_table_data.ensures.0
+pub returns-in_err-from_slice-clause-common : goal.returns-in_err-from_slice-clause-common
+returns-in_err-from_slice-clause-common g c = no_answer _ c.from_residual-in_err-from_slice.result
+    c.from_residual-in_err-from_slice.ensures.0
 
-pub returns-in_err-check_table_data-clause-lawful : goal.returns-in_err-check_table_data-clause-lawful
-returns-in_err-check_table_data-clause-lawful g c = no_answer _
-    c.from_residual-in_err-check_table_data.result c.from_residual-in_err-check_table_data.ensures.0
+pub returns-in_err-from_slice-clause-lawful : goal.returns-in_err-from_slice-clause-lawful
+returns-in_err-from_slice-clause-lawful g c = no_answer _ c.from_residual-in_err-from_slice.result
+    c.from_residual-in_err-from_slice.ensures.0
 
 pub returns-clause-keeps : goal.returns-clause-keeps
-returns-clause-keeps g c = c.in_ok-page.ensures.keeps
+returns-clause-keeps g c = c.in_ok-hold_table_data.ensures.keeps
 
 pub returns-clause-fault : goal.returns-clause-fault
-returns-clause-fault g c = c.in_ok-page.ensures.fault
+returns-clause-fault g c = c.in_ok-hold_table_data.ensures.fault
 
-pub returns-clause-seen : goal.returns-clause-seen
-returns-clause-seen g c = λ image tells. c.in_ok-page.ensures.seen image tells
+pub returns-clause-reads : goal.returns-clause-reads
+returns-clause-reads g c = c.in_ok-hold_table_data.ensures.reads
 
-pub check_table_data-requires-clause-least : goal.check_table_data-requires-clause-least
-check_table_data-requires-clause-least g c = least_long c.as_slice.result.now c.in_ok-page.page
-    c.args.store.now.geometry.size c.as_slice.ensures c.in_ok-page.ensures.len c.requires.geometry.size
-
-pub check_table_data-requires-clause-greatest : goal.check_table_data-requires-clause-greatest
-check_table_data-requires-clause-greatest g c = most_long c.as_slice.result.now c.in_ok-page.page
-    c.args.store.now.geometry.size c.as_slice.ensures c.in_ok-page.ensures.len c.requires.geometry.size
+pub returns-clause-common : goal.returns-clause-common
+returns-clause-common g c = subst (λ (b : List ℕ). common_verdict b c.args.n DATA_KIND c.args.owner.0
+    c.args.at ≡ Ok tt) (sym (c.new.ensures ∙ c.in_ok-from_slice.ensures.items))
+    (data_common c.hold_table_data.new.store c.args.batch.now.pages c.args.owner.0 c.args.at c.args.n
+    c.lent-bytes.result.now c.lent-bytes.ensures.read c.in_ok-hold_table_data.ensures.held)
 
 pub returns-clause-lawful : goal.returns-clause-lawful
-returns-clause-lawful g c = subst IsDataPage c.as_slice.ensures c.in_ok-check_table_data.ensures.lawful
+returns-clause-lawful g c = subst IsDataPage (sym (c.new.ensures ∙ c.in_ok-from_slice.ensures.items))
+    (data_lawful c.hold_table_data.new.store c.args.batch.now.pages c.args.owner.0 c.args.at c.args.n
+    c.lent-bytes.result.now c.lent-bytes.ensures.read c.in_ok-hold_table_data.ensures.held)
+
+pub returns-clause-seen : goal.returns-clause-seen
+returns-clause-seen g c = λ image tells. (c.new.ensures ∙ c.in_ok-from_slice.ensures.items)
+    ∙ as_started g.D.Disk.meaning c.args.store.now c.hold_table_data.new.store image c.args.batch.now
+    c.in_ok-hold_table_data.ensures.keeps tells (λ (pages : Pages). c.lent-bytes.result.now ≡ pages
+    c.args.n.0) (c.lent-bytes.ensures.seen image)
