@@ -231,17 +231,25 @@ none_of (Some x) is = absurd cc
 pub leads_nowhere : (back : Option Link) (test : Bool) → test ≡ is_some back → test ≡ false → back ≡ None
 leads_nowhere back test is no_ = none_of back (sym is ∙ no_)
 
--- the link to the newest version is the first that is followed
+-- the link that was found leads to the newest version, also after calls that have only read
+pub first_leads : {D : Type 0} (m : Meaning D) (rec : RecId) (before ready : Pool D FireLinks) (found : Option Link)
+    (first : Link) → ((image : Image) → Tells m before.disk image → found ≡ newest_link (shown before.dirty image) rec)
+    → KeepsStore m before ready → found ≡ Some first → (image : Image) → Tells m ready.disk image
+    → newest_link (shown ready.dirty image) rec ≡ Some first
+first_leads m rec before ready found first gives keeps some image tells =
+    let back = tells_back m before ready image keeps tells in
+    ap (λ (pages : Pages). newest_link pages rec) (kept_shown m before ready image image keeps back tells)
+    ∙ (sym (gives image back) ∙ some)
+
+-- so it is the first that is followed
 pub first_followed : {D : Type 0} (m : Meaning D) (rec : RecId) (before ready : Pool D FireLinks) (found : Option Link)
     (first : Link) → ((image : Image) → Tells m before.disk image → found ≡ newest_link (shown before.dirty image) rec)
     → KeepsStore m before ready → found ≡ Some first → (image : Image) → Tells m ready.disk image
     → IsFollowed (shown ready.dirty image) rec rec.page.0 first
-first_followed m rec before ready found first gives keeps some image tells =
-    let back = tells_back m before ready image keeps tells in record {
-      count = 0;
-      follows = leads_starts first (ap (λ (pages : Pages). newest_link pages rec)
-          (kept_shown m before ready image image keeps back tells) ∙ (sym (gives image back) ∙ some));
-    }
+first_followed m rec before ready found first gives keeps some image tells = record {
+  count = 0;
+  follows = leads_starts first (first_leads m rec before ready found first gives keeps some image tells);
+}
 
 -- the link by which the newest version leads on is the second
 pub second_followed : (view : Pages) (rec : RecId) (first second : Link) (met : Version)

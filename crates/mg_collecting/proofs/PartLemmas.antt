@@ -162,7 +162,7 @@ failed_shown m rec now after fault i j (not_read fails) first second =
     kept_shown m now after i j fails.keeps first second
 failed_shown m rec now after fault i j (not_dropped holder newer followed fails) first second =
     fails_own_shown m now after _ _ fault i j fails first second
-failed_shown m rec now after fault i j (not_taken_out fails) first second =
+failed_shown m rec now after fault i j (not_taken_out link leads fails) first second =
     fails_own_shown m now after _ _ fault i j fails first second
 
 -- ---- parts

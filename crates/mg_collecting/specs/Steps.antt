@@ -1,10 +1,11 @@
 -- A collection of a record is a row of steps, each a batch of its own.
-use Rattle.std.specs.Prelude.{◌≡◌, ℕ, Bool, true, false, List, [], None, Err}
+use Rattle.std.specs.Prelude.{◌≡◌, ℕ, Bool, true, false, List, [], None, Some, Err}
 use Rattle.mg_base.specs.Disk.{Meaning}
 use Rattle.mg_base.specs.Image.{Image}
 use Rattle.mg_base.specs.declared.numbers.PageNo.{PageNo}
 use Rattle.mg_base.specs.declared.numbers.RecId.{RecId}
 use Rattle.mg_base.specs.declared.transaction.TxState.{TxState}
+use Rattle.mg_chain.specs.Chains.{newest_link}
 use Rattle.mg_chain.specs.Dropping.{DropsBehind, RefusesDrop}
 use Rattle.mg_chain.specs.Refusals.{Follows, RefusesChain}
 use Rattle.mg_chain.specs.Views.{is_dead}
@@ -88,7 +89,8 @@ pub record IsFollowed (view : Pages) (rec : RecId) (holder : ℕ) (l : Link) : T
   pub count : ℕ
   pub follows : Follows view rec count holder l
 
--- A collection goes no further: a version of the record is not read, or one is not dropped or not taken out.
+-- A collection goes no further: a version of the record is not read, or one is not dropped, or the newest, which the record
+-- has, is not taken out.
 pub data FailsStep {D : Type 0} (m : Meaning D) (rec : RecId) (before after : Pool D FireLinks) (fault : SpaceFault)
     : Type 0 where
   not_read : FailsReading m before after (λ image f. RefusesChain m after [] (shown before.dirty image) rec f) fault
@@ -98,7 +100,9 @@ pub data FailsStep {D : Type 0} (m : Meaning D) (rec : RecId) (before after : Po
       → FailsOwn m before after (λ image batch. (gone : Link) × DropsBehind before image nothing_yet batch newer gone)
       (λ image f. RefusesDrop m before after image nothing_yet holder.0 newer f) fault
       → FailsStep m rec before after fault
-  not_taken_out : FailsTakingOut m before after rec fault → FailsStep m rec before after fault
+  not_taken_out : (link : Link)
+      → ((image : Image) → Tells m before.disk image → newest_link (shown before.dirty image) rec ≡ Some link)
+      → FailsTakingOut m before after rec fault → FailsStep m rec before after fault
 
 -- ---- a part of a collection
 

@@ -149,7 +149,7 @@ module _ {D : Type 0} (m : Meaning D) (holds : ToldAreHeld m) (laws : BatchLaws 
   stop_spends before after fault (not_read fails) = read_spends m before after fails.keeps
   stop_spends before after fault (not_dropped holder newer follows own) =
       failing_spends m holds before after _ _ fault own
-  stop_spends before after fault (not_taken_out own) = failing_spends m holds before after _ _ fault own
+  stop_spends before after fault (not_taken_out link leads own) = failing_spends m holds before after _ _ fault own
 
   stop_short : (before after : Pool D FireLinks) (fault : SpaceFault) → FailsStep m rec before after fault
       → IsNotShort m before 0 fault
@@ -158,7 +158,7 @@ module _ {D : Type 0} (m : Meaning D) (holds : ToldAreHeld m) (laws : BatchLaws 
   stop_short before after fault (not_dropped holder newer follows own) = failing_short m before after _ _ 0 fault
       (λ image why lawful. other_there before.geometry (viewed before image nothing_yet) 0 fault
       (drop_other m before after image nothing_yet holder.0 newer fault why)) own
-  stop_short before after fault (not_taken_out own) = failing_short m before after _ _ 0 fault
+  stop_short before after fault (not_taken_out link leads own) = failing_short m before after _ _ 0 fault
       (λ image why. laws.out_there before after image nothing_yet rec fault why) own
 
   -- ---- a record that has something settled
@@ -178,7 +178,7 @@ module _ {D : Type 0} (m : Meaning D) (holds : ToldAreHeld m) (laws : BatchLaws 
     read_spends m before after fails.keeps,
     λ lawful i tells. other_there before.geometry (shown before.dirty i) 0 fault (read_other m fault fails.own),
   )
-  failed_spends before after table fault (not_looked ready keeps online fails) = (
+  failed_spends before after table fault (not_looked ready keeps online is_record fails) = (
     both_spend m holds before ready after 0 0 (read_spends m before ready keeps)
         (read_spends m ready after fails.keeps),
     λ lawful i tells. other_there before.geometry (shown before.dirty i) 0 fault (read_other m fault fails.own),

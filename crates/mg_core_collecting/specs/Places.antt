@@ -73,14 +73,15 @@ pub data CollectsSettled {D : Type 0} (m : Meaning D) (before after : Pool D Fir
       → ((image : Image) → Tells m before.disk image → IsSettled (shown before.dirty image) state rec)
       → Collects m ready after state live rec gone → CollectsSettled m before after state live table rec gone
 
--- It is not told whether it is a record of the table, or whether that has something settled; or it has, and is not
--- collected to the end.
+-- It is not told whether it is a record of the table; or it is one, and it is not told whether that has something settled;
+-- or it has, and is not collected to the end.
 pub data FailsSettled {D : Type 0} (m : Meaning D) (before after : Pool D FireLinks) (state : ℕ → TxState)
     (live : State) (table : Table) (rec : RecId) (fault : SpaceFault) : Type 0 where
   not_told : FailsReading m before after
       (λ image f. RefusesRecordOf m after [] (shown before.dirty image) table.pointer.0 rec f) fault
       → FailsSettled m before after state live table rec fault
   not_looked : (ready : Pool D FireLinks) → KeepsStore m before ready → StaysOnline m before ready
+      → ((image : Image) → Tells m before.disk image → IsRecordOf (shown before.dirty image) table.pointer.0 rec)
       → FailsReading m ready after (λ image f. RefusesLook m after (shown ready.dirty image) rec f) fault
       → FailsSettled m before after state live table rec fault
   not_collected : (ready : Pool D FireLinks) → KeepsStore m before ready → StaysOnline m before ready

@@ -46,9 +46,8 @@ HasInNamed m core up rec = (o : Opening) (h : Entries) (stands : StandsFor m cor
 
 module _ (one : RowsAreOne packed_coding) (one_way : StandsOneWay packed_form) (on : TipsStayOn) (lists : ListsStay)
     (keep_plain : WritesKeepPlain) (covered : CoveredMayGo) (erased : ErasedMayGo) (begins : OpeningsBegin)
-    {D P : Type 0} (m : Meaning D) (last : RowsLastStill D FireLinks m packed_form)
-    (reads_last : ReadsLast D FireLinks m packed_form) (holds : HoldsOne D m)
-    (places : Places P) (old : Core D) (core : IsCore m old)
+    {D : Type 0} (m : Meaning D) (last : RowsLastStill D FireLinks m packed_form)
+    (reads_last : ReadsLast D FireLinks m packed_form) (holds : HoldsOne D m) (old : Core D) (core : IsCore m old)
     (up : old.store.offline ≡ None) (rec : RecId) (here : HasInNamed m old up rec) where
   module _ (some : Bool) (now : Pool D FireLinks) (steps : Steps m (said old.list) old.live rec old.store some now) where
     module _ (o : Opening) (h : Entries) (stands : StandsFor m old o h) where
@@ -61,9 +60,11 @@ module _ (one : RowsAreOne packed_coding) (one_way : StandsOneWay packed_form) (
       abbrev table : Table
       table = (here o h stands).0
 
-      it : StepStays m o h s old.list old.store now (shown old.store.dirty shows.image) (asked_in old.works)
-          (sessions_in old.works) rec table
-      it = steps_stay one one_way on lists keep_plain covered erased begins m last reads_last holds o h s old.list
+      -- what its pages show behind the steps
+      pub shows_then : StepStays m o h (standing_of old stands.numbers stands.tables) old.list old.store now
+          (shown old.store.dirty (shows_of m old o h stands up).image) (asked_in old.works) (sessions_in old.works) rec
+          (here o h stands).0
+      shows_then = steps_stay one one_way on lists keep_plain covered erased begins m last reads_last holds o h s old.list
           old.store shows.image (asked_in old.works) (sessions_in old.works) shows.stands shows.lasts core.pool
           core.geometry (record { told = stands.tells; held = shows.held }) up rec table (here o h stands).1
           shows.plain_tables shows.tips some now steps
@@ -74,16 +75,16 @@ module _ (one : RowsAreOne packed_coding) (one_way : StandsOneWay packed_form) (
       shows_now : ShowsIt m (record old { store = now }) o h
           (standing_of (record old { store = now }) stands.numbers stands.tables)
       shows_now = record {
-        image = it.image;
-        held = it.held;
-        stands = it.shows.stands;
-        lasts = it.lasts;
-        tips = it.shows.tips;
-        catalog = shows.catalog ∙ sym it.keeps.catalog;
-        plain_tables = it.shows.plain;
+        image = shows_then.image;
+        held = shows_then.held;
+        stands = shows_then.shows.stands;
+        lasts = shows_then.lasts;
+        tips = shows_then.shows.tips;
+        catalog = shows.catalog ∙ sym shows_then.keeps.catalog;
+        plain_tables = shows_then.shows.plain;
         no_directory = shows.no_directory;
-        noted = subst (λ (g : Geometry). HasDirectories g.size (said old.list) (shown now.dirty it.image)
-            old.directories) (sym same) (it.noted (by_table old.directories.dirs) shows.noted);
+        noted = subst (λ (g : Geometry). HasDirectories g.size (said old.list) (shown now.dirty shows_then.image)
+            old.directories) (sym same) (shows_then.noted (by_table old.directories.dirs) shows.noted);
       }
 
       stays_over : (t : ℕ) → StaysOver m old now o h t
@@ -100,15 +101,15 @@ module _ (one : RowsAreOne packed_coding) (one_way : StandsOneWay packed_form) (
               (standing_of (record old { store = now }) stands.numbers stands.tables) off)
               (sym (steps_on m (said old.list) old.live rec old.store up some now steps).online) shows_now;
         };
-        leaves = it.leaves;
+        leaves = shows_then.leaves;
         walks = λ i held u ne works x from rows comes.
             let both : Some shows.image ≡ Some i = sym shows.held ∙ held in
             let image_is : i ≡ shows.image = cc in (
-              it.image,
-              it.held,
-              as_standing now.geometry.size s (bare_standing old) (shown now.dirty it.image) u x from rows refl refl
-                  (subst (λ (g : Geometry). AreToCome g.size s (shown now.dirty it.image) u x from rows) (sym same)
-                  (it.others t u ne works x from rows (as_standing old.store.geometry.size (bare_standing old) s
+              shows_then.image,
+              shows_then.held,
+              as_standing now.geometry.size s (bare_standing old) (shown now.dirty shows_then.image) u x from rows refl refl
+                  (subst (λ (g : Geometry). AreToCome g.size s (shown now.dirty shows_then.image) u x from rows) (sym same)
+                  (shows_then.others t u ne works x from rows (as_standing old.store.geometry.size (bare_standing old) s
                   (shown old.store.dirty shows.image) u x from rows refl refl (subst (λ (k : Image).
                   AreToCome old.store.geometry.size (bare_standing old) (shown old.store.dirty k) u x from rows)
                   image_is comes)))),
@@ -116,6 +117,6 @@ module _ (one : RowsAreOne packed_coding) (one_way : StandsOneWay packed_form) (
       }
 
     -- the steps that were made
-    pub steps_so : (t : ℕ) → StaysSo m places old (record old { store = now }) t
-    steps_so t = over_so m places old now t up (steps_on m (said old.list) old.live rec old.store up some now steps)
+    pub steps_so : {P : Type 0} (places : Places P) (t : ℕ) → StaysSo m places old (record old { store = now }) t
+    steps_so places t = over_so m places old now t up (steps_on m (said old.list) old.live rec old.store up some now steps)
         (λ o h stands. stays_over o h stands t)

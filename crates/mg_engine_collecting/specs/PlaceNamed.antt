@@ -4,7 +4,7 @@ use Rattle.std.proofs.Common.{◌≡◌, ◌≢◌, ◌∙◌, ◌⊎◌, inl, i
 use Rattle.std.specs.Prelude.{is_some, map}
 use Rattle.mg_base.specs.Disk.{Meaning}
 use Rattle.mg_base.specs.Image.{Image}
-use Rattle.mg_base.specs.declared.numbers.PageNo.{PageNo}
+use Rattle.mg_base.specs.declared.geometry.Geometry.{Geometry}
 use Rattle.mg_base.specs.declared.numbers.RecId.{RecId}
 use Rattle.mg_base.specs.declared.numbers.TxNo.{TxNo}
 use Rattle.mg_base.specs.declared.transaction.TxState.{TxState}
@@ -12,13 +12,13 @@ use Rattle.mg_base.specs.declared.transaction.TxState.TheVariants.{Active, Commi
 use Rattle.mg_core.specs.Cores.{IsCore}
 use Rattle.mg_core.specs.declared.parts.Core.{Core}
 use Rattle.mg_core_collecting.specs.Places.{IsSettled}
-use Rattle.mg_engine_meaning.specs.Standings.{ShowsIt, standing_of}
+use Rattle.mg_engine_meaning.specs.Standings.{ShowsIt, StandsFor, standing_of}
 use Rattle.mg_engine_meaning.specs.StepLaws.{shows_of}
 use Rattle.mg_engine_steps.specs.Standing.{ShowsHistory}
 use Rattle.mg_heap.specs.Listed.{IsRecordOf}
 use Rattle.mg_heap.specs.ListedLaws.{page_of_record}
 use Rattle.mg_heap.specs.Stands.{TablesAreWalked}
-use Rattle.mg_image.specs.Catalog.{IsNamed, IsSameTable, MayStandIn}
+use Rattle.mg_image.specs.Catalog.{IsNamed, MayStandIn}
 use Rattle.mg_image.specs.Form.{Pages, packed_form}
 use Rattle.mg_image.specs.ReadingLaws.{Opens, chain_opens}
 use Rattle.mg_image.specs.RecordRules.{Each, EachBack, Facts}
@@ -33,10 +33,17 @@ use Rattle.mg_image_overlays.specs.TableOwners.{IsOneOf, named_other}
 use Rattle.mg_model.specs.Answers.{is_committed}
 use Rattle.mg_model.specs.Catalog.{catalog_name}
 use Rattle.mg_model.specs.Openings.{everyone}
+use Rattle.mg_model.specs.History.{Entries}
+use Rattle.mg_model.specs.declared.opening.Opening.{Opening}
 use Rattle.mg_model.specs.declared.table.Table.{Table}
 use Rattle.mg_overlays.specs.Overlays.{left_by, left_state}
+use Rattle.mg_pool.specs.Dirty.{DirtyPages}
 use Rattle.mg_pool.specs.Pool.{shown}
-use Rattle.mg_space.specs.View.{Tells}
+use Rattle.mg_pool.specs.declared.pool.Pool.{Pool}
+use Rattle.mg_space.specs.Taking.{IsGeometry}
+use Rattle.mg_space.specs.View.{KeepsStore, Tells}
+use Rattle.mg_space.specs.declared.links.FireLinks.{FireLinks}
+use Rattle.mg_txlist.specs.TipLaws.{tips_by}
 use Rattle.mg_txlist.specs.TxList.{said}
 use Rattle.mg_version.specs.declared.cell.Cell.TheVariants as cells
 use Rattle.mg_version.specs.declared.cell.Link.{Link}
@@ -108,6 +115,46 @@ module _ (size : ℕ) (state : ℕ → TxState) (pages : Pages) (layout : Layout
               (ap (λ (v : Version). is_some v.back) (sym same) ∙ some)
               (chain_opens (cells_of pages) e.version.back es opens.3) owns.1 backs
 
+-- The table was given to a transaction that is active, so it stands on the pages, under a name of its own.
+module _ (walked : TablesAreWalked) {D : Type 0} (m : Meaning D) (core : Core D) (is_core : IsCore m core)
+    (up : core.store.offline ≡ None) (t : ℕ) (table : Table) (rec : RecId)
+    (given : given_to core.works t table.name ≡ Some table) (o : Opening) (h : Entries)
+    (stands : StandsFor m core o h) where
+  abbrev size : ℕ
+  size = core.store.geometry.size
+
+  abbrev pages : Pages
+  pages = shown core.store.dirty (shows_of m core o h stands up).image
+
+  abbrev shows : ShowsHistory packed_form core.store.geometry.size o h (standing_of core stands.numbers stands.tables)
+      (shown core.store.dirty (shows_of m core o h stands up).image)
+  shows = (shows_of m core o h stands up).stands.shows
+
+  active : said core.list t ≡ Active
+  active = is_core.active.is_active t (given_works core.works t table.name table given)
+
+  one_of : IsOneOf (map (λ (stand : Stand). stand.table) shows.layout.tables) table
+  one_of = (shows.tables t active).seen table.name table (stands.given t table.name table given)
+
+  there : IsTableOf shows.layout table
+  there = stands_in shows.layout table (inr one_of)
+
+  other_name : table.name ≢ catalog_name
+  other_name same = named_other packed_form size (left_state everyone (said core.list)) pages shows.layout shows.reading
+      shows.sound table one_of same
+
+  -- a record of it stands on one of its pages
+  pub record_there : IsRecordOf (shown core.store.dirty (shows_of m core o h stands up).image) table.pointer.0 rec
+      → table_at (stands_of (shows_of m core o h stands up).stands.shows.layout) rec.page.0 ≡ Some table
+  record_there is = (its_data packed_form size (left_state everyone (said core.list)) pages shows.layout shows.reading
+      shows.sound table there rec.page.0).1 on_page
+    where
+      on_page : Has there.stand.data_pages rec.page.0
+      on_page = page_of_record pages there.stand.table.pointer.0 there.stand.pointers there.stand.data_pages
+          (walked packed_form.in_primary size pages there.stand (its_pages packed_form size
+          (left_state everyone (said core.list)) pages shows.layout shows.reading shows.sound table there)) rec
+          (subst (λ (n : ℕ). IsRecordOf pages n rec) (sym (ap (λ (x : Table). x.pointer.0) there.table_is)) is)
+
 module _ (walked : TablesAreWalked) {D : Type 0} (m : Meaning D) (core : Core D) (is_core : IsCore m core)
     (up : core.store.offline ≡ None) (t : ℕ) (table : Table) (rec : RecId)
     (given : given_to core.works t table.name ≡ Some table)
@@ -117,57 +164,64 @@ module _ (walked : TablesAreWalked) {D : Type 0} (m : Meaning D) (core : Core D)
     → IsSettled (shown core.store.dirty image) (said core.list) rec) where
   pub has_in_named : HasInNamed m core up rec
   has_in_named o h stands = (
-    found.0,
+    table,
     record {
       of = of;
-      no_catalog = λ same. other (ap (λ (x : Table). x.name) (same ∙ shows.sound.catalog));
-      named = named size (said core.list) pages shows.layout shows.reading shows.sound rec found.0 of other
-          (settled it.image tells);
+      no_catalog = λ same. other (ap (λ (x : Table). x.name) (same ∙ shows_it.sound.catalog));
+      named = named core.store.geometry.size (said core.list) (shown core.store.dirty it.image) shows_it.layout
+          shows_it.reading shows_it.sound rec table of other (settled it.image tells);
     },
   )
     where
       it : ShowsIt m core o h (standing_of core stands.numbers stands.tables)
       it = shows_of m core o h stands up
 
-      size : ℕ
-      size = core.store.geometry.size
-
-      pages : Pages
-      pages = shown core.store.dirty (shows_of m core o h stands up).image
-
-      shows : ShowsHistory packed_form core.store.geometry.size o h
+      shows_it : ShowsHistory packed_form core.store.geometry.size o h
           (standing_of core stands.numbers stands.tables)
           (shown core.store.dirty (shows_of m core o h stands up).image)
-      shows = (shows_of m core o h stands up).stands.shows
+      shows_it = (shows_of m core o h stands up).stands.shows
 
       tells : Tells m core.store.disk it.image
       tells = record { told = stands.tells; held = it.held }
 
-      active : said core.list t ≡ Active
-      active = is_core.active.is_active t (given_works core.works t table.name table given)
+      other : table.name ≢ catalog_name
+      other = other_name walked m core is_core up t table rec given o h stands
 
-      found : (its : Table) × IsOneOf (map (λ (stand : Stand). stand.table) shows.layout.tables) its
-          × IsSameTable its table
-      found = (
-        table,
-        (shows.tables t active).seen table.name table (stands.given t table.name table given),
-        record { name = refl; shape = refl; pointer = refl },
-      )
+      of : table_at (stands_of shows_it.layout) rec.page.0 ≡ Some table
+      of = record_there walked m core is_core up t table rec given o h stands (is_record it.image tells)
 
-      there : IsTableOf shows.layout found.0
-      there = stands_in shows.layout found.0 (inr found.1)
+-- ---- behind what was read
 
-      other : found.0.name ≢ catalog_name
-      other same = named_other packed_form size (left_state everyone (said core.list)) pages shows.layout shows.reading
-          shows.sound found.0 found.1 same
+-- Pages were only read since: the core is as before but for its store, and so is what is known of the record.
+module _ {D : Type 0} (m : Meaning D) (old : Core D) (core : IsCore m old) (ready : Pool D FireLinks)
+    (keeps : KeepsStore m old.store ready) where
+  pub core_behind : IsCore m (record old { store = ready })
+  core_behind = record {
+    pool = keeps.pool;
+    geometry = subst IsGeometry (sym keeps.geometry) core.geometry;
+    list = core.list;
+    size = core.size ∙ ap (λ (g : Geometry). g.size) (sym keeps.geometry);
+    tips = tips_by old.store.geometry ready.geometry old.list keeps.geometry core.tips;
+    next = core.next;
+    drawn = core.drawn;
+    active = core.active;
+    catalog = core.catalog;
+  }
 
-      on_page : Has there.stand.data_pages rec.page.0
-      on_page = page_of_record pages there.stand.table.pointer.0 there.stand.pointers there.stand.data_pages
-          (walked packed_form.in_primary size pages there.stand (its_pages packed_form size
-          (left_state everyone (said core.list)) pages shows.layout shows.reading shows.sound found.0 there)) rec
-          (subst (λ (n : ℕ). IsRecordOf pages n rec) (sym (ap (λ (x : Table). x.pointer.0) there.table_is
-          ∙ ap (λ (p : PageNo). p.0) found.2.pointer)) (is_record it.image tells))
+  tells_back : (image : Image) → Tells m ready.disk image → Tells m old.store.disk image
+  tells_back image tells = record {
+    told = sym keeps.disk.tells ∙ tells.told;
+    held = sym keeps.disk.held ∙ tells.held;
+  }
 
-      of : table_at (stands_of shows.layout) rec.page.0 ≡ Some found.0
-      of = (its_data packed_form size (left_state everyone (said core.list)) pages shows.layout shows.reading
-          shows.sound found.0 there rec.page.0).1 on_page
+  pub named_behind : TablesAreWalked → (up : old.store.offline ≡ None) (t : ℕ) (table : Table) (rec : RecId)
+      → given_to old.works t table.name ≡ Some table
+      → ((image : Image) → Tells m old.store.disk image → IsRecordOf (shown old.store.dirty image) table.pointer.0 rec)
+      → ((image : Image) → Tells m old.store.disk image → IsSettled (shown old.store.dirty image) (said old.list) rec)
+      → HasInNamed m (record old { store = ready }) (keeps.offline ∙ up) rec
+  named_behind walked up t table rec given is_record settled =
+      has_in_named walked m (record old { store = ready }) core_behind (keeps.offline ∙ up) t table rec given
+      (λ image tells. subst (λ (d : DirtyPages). IsRecordOf (shown d image) table.pointer.0 rec) (sym keeps.dirty)
+      (is_record image (tells_back image tells)))
+      (λ image tells. subst (λ (d : DirtyPages). IsSettled (shown d image) (said old.list) rec) (sym keeps.dirty)
+      (settled image (tells_back image tells)))

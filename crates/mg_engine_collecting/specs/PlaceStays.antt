@@ -42,21 +42,18 @@ use Rattle.mg_model.specs.declared.answer.Answer.TheVariants.{No}
 use Rattle.mg_model.specs.declared.refusal.Refusal.{Refusal}
 use Rattle.mg_model.specs.declared.refusal.Refusal.TheVariants.{NotActive, Offline}
 use Rattle.mg_model.specs.declared.table.Table.{Table}
-use Rattle.mg_pool.specs.Dirty.{DirtyPages}
 use Rattle.mg_pool.specs.Pool.{shown}
 use Rattle.mg_pool.specs.declared.pool.Pool.{Pool}
 use Rattle.mg_records.specs.Crashing.{LeavesQuietly}
 use Rattle.mg_records.specs.Keeping.{Reads, refusal_in}
 use Rattle.mg_records.specs.Sessions.{SessionsStay}
-use Rattle.mg_space.specs.Taking.{IsGeometry}
 use Rattle.mg_space.specs.View.{KeepsStore, Tells}
 use Rattle.mg_space.specs.declared.fault.SpaceFault.{SpaceFault}
 use Rattle.mg_space.specs.declared.links.FireLinks.{FireLinks}
-use Rattle.mg_txlist.specs.TipLaws.{tips_by}
 use Rattle.mg_txlist.specs.TxList.{said}
 use Rattle.mg_works.specs.Works.{given_to}
 use Rattle.mg_engine_collecting.specs.CoreStays.{HasInNamed, steps_so}
-use Rattle.mg_engine_collecting.specs.PlaceNamed.{given_works, has_in_named}
+use Rattle.mg_engine_collecting.specs.PlaceNamed.{core_behind, given_works, named_behind}
 use Rattle.mg_engine_collecting.specs.RunStays.{steps_on}
 
 -- A call is nobody's event: no entry comes to the history, all go on as they were, and a crash leaves what it left. It is
@@ -94,7 +91,7 @@ stops_from m rec before after fault (not_read fails) =
     record { left = inl fails.keeps; told = told_of m before after fault fails.told }
 stops_from m rec before after fault (not_dropped holder newer follows own) =
     record { left = own_left m before after _ _ fault own; told = own_tells m before after _ _ fault own }
-stops_from m rec before after fault (not_taken_out own) =
+stops_from m rec before after fault (not_taken_out link leads own) =
     record { left = own_left m before after _ _ fault own; told = own_tells m before after _ _ fault own }
 
 module _ (one : RowsAreOne packed_coding) (one_way : StandsOneWay packed_form) (on : TipsStayOn) (lists : ListsStay)
@@ -113,33 +110,10 @@ module _ (one : RowsAreOne packed_coding) (one_way : StandsOneWay packed_form) (
     mid_up : ready.offline ≡ None
     mid_up = keeps.offline ∙ up
 
-    mid_core : IsCore m (record old { store = ready })
-    mid_core = record {
-      pool = keeps.pool;
-      geometry = subst IsGeometry (sym keeps.geometry) core.geometry;
-      list = core.list;
-      size = core.size ∙ ap (λ (g : Geometry). g.size) (sym keeps.geometry);
-      tips = tips_by old.store.geometry ready.geometry old.list keeps.geometry core.tips;
-      next = core.next;
-      drawn = core.drawn;
-      active = core.active;
-      catalog = core.catalog;
-    }
-
-    tells_back : (image : Image) → Tells m ready.disk image → Tells m old.store.disk image
-    tells_back image tells = record {
-      told = sym keeps.disk.tells ∙ tells.told;
-      held = sym keeps.disk.held ∙ tells.held;
-    }
-
     here : ((image : Image) → Tells m old.store.disk image → IsRecordOf (shown old.store.dirty image) table.pointer.0 rec)
         → ((image : Image) → Tells m old.store.disk image → IsSettled (shown old.store.dirty image) (said old.list) rec)
         → HasInNamed m mid mid_up rec
-    here is_record settled = has_in_named walked m mid mid_core mid_up t.0 table rec given
-        (λ image tells. subst (λ (d : DirtyPages). IsRecordOf (shown d image) table.pointer.0 rec) (sym keeps.dirty)
-        (is_record image (tells_back image tells)))
-        (λ image tells. subst (λ (d : DirtyPages). IsSettled (shown d image) (said old.list) rec) (sym keeps.dirty)
-        (settled image (tells_back image tells)))
+    here is_record settled = named_behind m old core ready keeps walked up t.0 table rec given is_record settled
 
     read_so : (u : ℕ) → StaysSo m places old (record old { store = ready }) u
     read_so u = reads_so m places begins reads_last old ready old.damage old.shortages u keeps
@@ -148,8 +122,8 @@ module _ (one : RowsAreOne packed_coding) (one_way : StandsOneWay packed_form) (
         → Steps m (said old.list) old.live rec ready some now → (u : ℕ)
         → StaysSo m places old (record old { store = now }) u
     run_so its some now steps u = so_then m places old mid (record old { store = now }) u (read_so u)
-        (steps_so one one_way on lists keep_plain covered erased begins m last reads_last holds places mid mid_core mid_up
-        rec its some now steps u)
+        (steps_so one one_way on lists keep_plain covered erased begins m last reads_last holds mid
+        (core_behind m old core ready keeps) mid_up rec its some now steps places u)
 
   -- ---- the record was collected, or left
 
@@ -186,7 +160,7 @@ module _ (one : RowsAreOne packed_coding) (one_way : StandsOneWay packed_form) (
         walks = λ v its after rows not_ comes. comes;
         unmarked = λ page who none. none;
       }
-  fails_from store fault (not_looked ready keeps online fails) = record {
+  fails_from store fault (not_looked ready keeps online is_record fails) = record {
     before = ready;
     so = read_so ready keeps;
     up_then = mid_up ready keeps;

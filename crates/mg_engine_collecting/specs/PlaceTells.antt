@@ -43,7 +43,7 @@ module _ {D : Type 0} (m : Meaning D) (k : FaultCount) (state : ℕ → TxState)
       → is_disks k fault ≡ false → Stands m k before after
   stop_told before after fault (not_read fails) quiet = told m k (Unit {0}) before after fault fails.told quiet
   stop_told before after fault (not_dropped holder newer follows own) quiet = own_told m k before after fault own quiet
-  stop_told before after fault (not_taken_out own) quiet = own_told m k before after fault own quiet
+  stop_told before after fault (not_taken_out link leads own) quiet = own_told m k before after fault own quiet
 
   settled_stand : (before after : Pool D FireLinks) (table : Table) (gone : Bool)
       → CollectsSettled m before after state live table rec gone → Stands m k before after
@@ -55,7 +55,7 @@ module _ {D : Type 0} (m : Meaning D) (k : FaultCount) (state : ℕ → TxState)
   failed_told : (before after : Pool D FireLinks) (table : Table) (fault : SpaceFault)
       → FailsSettled m before after state live table rec fault → is_disks k fault ≡ false → Stands m k before after
   failed_told before after table fault (not_told fails) quiet = told m k (Unit {0}) before after fault fails.told quiet
-  failed_told before after table fault (not_looked ready keeps online fails) quiet =
+  failed_told before after table fault (not_looked ready keeps online is_record fails) quiet =
       told m k (Unit {0}) ready after fault fails.told quiet ∙ met m k before ready online
   failed_told before after table fault (not_collected ready keeps online is_record settled fails) quiet =
       stop_told fails.now after fault fails.fails quiet

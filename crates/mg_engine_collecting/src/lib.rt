@@ -18,7 +18,8 @@
 //! Below: `mg_collecting` and `mg_core_collecting`, for the steps, what remains, and the call; `mg_generations`, for chains
 //! with gaps; `mg_collect_ties`, for the batches; `mg_engine_steps` and `mg_engine_changes`, for what an engine stands for.
 //! Above: nobody yet; the engine, once it collects.
-//! Not here: that no page is taken (`mg_collecting_room`), and that no damage is met over a sound image.
+//! Not here: that no page is taken (`mg_collecting_room`), and that no damage is met over a sound image
+//! (`mg_collecting_damage`).
 #![tactic(auto)]
 
 mod laws;

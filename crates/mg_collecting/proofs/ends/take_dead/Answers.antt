@@ -8,7 +8,7 @@ use Rattle.mg_collecting.specs.Remaining.{without_dead}
 use Rattle.mg_collecting.specs.RemainingLaws.{dead_some}
 use Rattle.mg_collecting.specs.Steps.{DoesPart, FailsPart, not_read, not_taken_out}
 use Rattle.mg_collecting.proofs.CountLemmas.{primary_refuses}
-use Rattle.mg_collecting.proofs.EndLemmas.{dead_taken, none_dead, not_dead}
+use Rattle.mg_collecting.proofs.EndLemmas.{dead_taken, first_leads, none_dead, not_dead}
 use Rattle.mg_collecting.proofs.PartLemmas.{fails_after, fails_at_once, handed_on}
 use Rattle.mg_collecting.proofs.WholeLemmas.{reading_as}
 use Rattle.mg_collecting.proofs.ends.take_dead.Goals as goal
@@ -52,7 +52,9 @@ returns-in_err-take_newest_out-clause-takes g c = handed_on c.from_residual-in_e
     (fails_after g.D.Disk.meaning (g.S.States.state_of c.args.states.now) c.args.live.now c.args.rec
     (without_dead (g.S.States.state_of c.args.states.now)) g.met.D.Disk.holds c.args.store.now c.newest.new.store
     c.take_newest_out.new.store c.in_err-take_newest_out.field-0.0 c.in_ok-first.ensures.keeps
-    c.in_ok-first.ensures.fault (not_taken_out c.in_err-take_newest_out.ensures.takes)
+    c.in_ok-first.ensures.fault (not_taken_out c.in-Some.first (first_leads g.D.Disk.meaning c.args.rec
+    c.args.store.now c.newest.new.store c.in_ok-first.field-0 c.in-Some.first c.in_ok-first.ensures.gives
+    c.in_ok-first.ensures.keeps c.in-Some.is) c.in_err-take_newest_out.ensures.takes)
     (dead_some (g.S.States.state_of c.args.states.now)))
 
 pub returns-clause-takes : goal.returns-clause-takes

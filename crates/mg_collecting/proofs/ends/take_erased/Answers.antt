@@ -10,7 +10,7 @@ use Rattle.mg_collecting.specs.Remaining.{without_erased}
 use Rattle.mg_collecting.specs.RemainingLaws.{erased_some}
 use Rattle.mg_collecting.specs.Steps.{DoesPart, FailsPart, not_read, not_taken_out}
 use Rattle.mg_collecting.proofs.CountLemmas.{met_on, primary_refuses}
-use Rattle.mg_collecting.proofs.EndLemmas.{erased_taken, first_followed, leads_nowhere, none_erased, not_alone, not_erased}
+use Rattle.mg_collecting.proofs.EndLemmas.{erased_taken, first_followed, first_leads, leads_nowhere, none_erased, not_alone, not_erased}
 use Rattle.mg_collecting.proofs.PartLemmas.{fails_after, fails_at_once, handed_on, online_on}
 use Rattle.mg_collecting.proofs.PassedLemmas.{version_unread}
 use Rattle.mg_collecting.proofs.WholeLemmas.{reading_as}
@@ -102,7 +102,10 @@ returns-in_err-take_newest_out-clause-takes g c = handed_on c.from_residual-in_e
     (keeps_on g.D.Disk.meaning g.met.D.Disk.counts_now c.args.store.now c.newest.new.store c.version.new.store
     c.in_ok-first.ensures.keeps c.in_ok-met.ensures.keeps)
     (online_on g.D.Disk.meaning c.args.store.now c.newest.new.store c.version.new.store c.in_ok-first.ensures.fault
-    c.in_ok-met.ensures.fault) (not_taken_out c.in_err-take_newest_out.ensures.takes)
+    c.in_ok-met.ensures.fault) (not_taken_out c.in-Some.first (first_leads g.D.Disk.meaning c.args.rec
+    c.args.store.now c.version.new.store c.in_ok-first.field-0 c.in-Some.first c.in_ok-first.ensures.gives
+    (keeps_on g.D.Disk.meaning g.met.D.Disk.counts_now c.args.store.now c.newest.new.store c.version.new.store
+    c.in_ok-first.ensures.keeps c.in_ok-met.ensures.keeps) c.in-Some.is) c.in_err-take_newest_out.ensures.takes)
     (erased_some (g.S.States.state_of c.args.states.now) c.args.live.now))
 
 pub returns-clause-takes : goal.returns-clause-takes

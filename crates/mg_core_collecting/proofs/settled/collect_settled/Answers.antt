@@ -40,6 +40,9 @@ returns-in_err-settled-clause-collects g c = handed_on c.from_residual-in_err-se
     (g.S.States.state_of c.args.states.now) c.args.live.now c.args.table.now c.args.rec)
     c.from_residual-in_err-settled.ensures.0 c.from_residual-in_err-settled.ensures.1
     (not_looked c.is_record_of.new.store c.in_ok-its.ensures.keeps c.in_ok-its.ensures.fault
+    (λ image tells. (told_record g.D.Disk.meaning c.args.store.now c.is_record_of.new.store image
+    c.new-batch.result c.args.table.now.pointer.0 c.args.rec (Ok c.in_ok-its.its) c.new-batch.ensures.pages
+    (c.in_ok-its.ensures.tells image tells)).0 c.if-not-its.false)
     (reading_as Bool g.D.Disk.meaning c.is_record_of.new.store c.is_settled.new.store
     (λ (image : Image). λ (f : SpaceFault). RefusesLook g.D.Disk.meaning c.is_settled.new.store
     (shown c.is_record_of.new.store.dirty image) c.args.rec f) c.in_err-settled.field-0.0
