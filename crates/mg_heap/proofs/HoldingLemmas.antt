@@ -14,6 +14,7 @@ use Rattle.mg_slots.specs.Verdict.{common_verdict}
 use Rattle.mg_slots.specs.declared.page.TheConstants.{DATA_KIND}
 use Rattle.mg_space.specs.Lawful.{IsLawfulPage, readable}
 use Rattle.mg_space.specs.declared.fault.SpaceFault.{SpaceFault}
+use Rattle.mg_heap.specs.Reading.{HoldsData, IsSomeData}
 use Rattle.mg_heap.specs.Table.{HoldsPointer}
 use Rattle.mg_heap.specs.Walk.{HoldsTableData}
 
@@ -30,6 +31,12 @@ same_read read held lent is also =
     let same : Some held ≡ Some lent = sym is ∙ also in
     let bytes : held ≡ lent = cc in
     bytes
+
+pub some_data : {D L : Type 0} (store : Pool D L) (batch : List BatchPage) (page : PageNo)
+    (lent : List ℕ) → readable store batch page.0 ≡ Some lent → HoldsData store batch page
+    → IsSomeData page lent
+some_data store batch page lent read held = subst (IsSomeData page)
+    (same_read (readable store batch page.0) held.bytes lent held.read read) held.data_page
 
 module _ {D L : Type 0} (store : Pool D L) (batch : List BatchPage) (owner at : ℕ) (n : PageNo)
     (lent : List ℕ) (read : readable store batch n.0 ≡ Some lent) where

@@ -13,11 +13,11 @@ ghost use Rattle.mg_space.specs.View.{AreWhole, KeepsStore, Tells, pool_answer, 
 ghost use Rattle.mg_heap.specs.Changing.{ChangesAtMost, ChangesWhere, FreesCellAt, IsLeastSlot, MayHave, PlacesCell};
 ghost use Rattle.mg_heap.specs.Reading.{ReadsData, RefusesData};
 
-use crate::reading::data_page;
+use crate::reading::{data_page, hold_data};
 use mg_base::{Disk, PageNo, RecId};
 use mg_pool::Batch;
 use mg_slots::{replace, slots};
-use mg_space::{SpaceFault, Store};
+use mg_space::{SpaceFault, Store, lent};
 
 /// Puts a cell into a slot that is in use or is the least free one of its page: `false` exactly
 /// where the slot is neither, or the cell does not fit. Then the batch is as before.
@@ -113,8 +113,8 @@ pub fn least_slot<D: Disk>(
         (RefusesData D.meaning store.new batch.now.pages page
         (viewed store.old image batch.now page.0)) }
 {
-    let bytes = data_page(store, batch, page)?;
-    Ok(least_free(bytes.as_slice()))
+    hold_data(store, batch, page)?;
+    Ok(least_free(lent(store, batch, page)))
 }
 
 /// The least free slot: the one past the last where there is no other.

@@ -11,11 +11,11 @@ ghost use Rattle.mg_heap.specs.Reach.{IsReached, MayOwn, OwnsPage, RefusesOwner,
 ghost use Rattle.mg_heap.specs.Reading.{ReadsData, owner_in};
 ghost use Rattle.mg_heap.specs.Table.{link_damage};
 
-use crate::reading::data_page;
+use crate::reading::hold_data;
 use crate::table::{follow, has_number};
 use mg_base::{Damaged, Disk, Field, GREATEST_LIMIT, OWNER_AT, PageNo, get_u32};
 use mg_pool::Batch;
-use mg_space::{SpaceFault, Store};
+use mg_space::{SpaceFault, Store, lent};
 
 /// The owner of a data page, by what the page says itself: the first pointer page of its table.
 ///
@@ -41,8 +41,8 @@ pub fn owner_of<D: Disk>(
         (RefusesOwner D.meaning store.new batch.now.pages page
         (viewed store.old image batch.now page.0)) }
 {
-    let bytes = data_page(store, batch, page)?;
-    let owner = owner_number(bytes.as_slice());
+    hold_data(store, batch, page)?;
+    let owner = owner_number(lent(store, batch, page));
     if owner == 0 || owner >= GREATEST_LIMIT {
         return Err(SpaceFault::Damaged(wrong_owner(page, owner)));
     }

@@ -28,11 +28,13 @@ returns-in_err-hold_pointer-clause-keeps g c = c.in_err-hold_pointer.ensures.kee
 
 pub returns-in_err-hold_pointer-clause-fault : goal.returns-in_err-hold_pointer-clause-fault
 returns-in_err-hold_pointer-clause-fault g c = fault_same (Unit {0}) g.D.Disk.meaning c.args.store.now
-    c.hold_pointer.new.store c.from_residual.result c.in_err-hold_pointer.field-0.0 c.from_residual.ensures.0
+    c.hold_pointer.new.store c.from_residual.result c.in_err-hold_pointer.field-0.0
+    c.from_residual.ensures.0
     c.from_residual.ensures.1 c.in_err-hold_pointer.ensures.fault
 
 pub returns-in_err-hold_pointer-clause-own : goal.returns-in_err-hold_pointer-clause-own
-returns-in_err-hold_pointer-clause-own g c = reads_same (Unit {0}) c.from_residual.result c.in_err-hold_pointer.field-0.0
+returns-in_err-hold_pointer-clause-own g c = reads_same (Unit {0}) c.from_residual.result
+    c.in_err-hold_pointer.field-0.0
     c.from_residual.ensures.0 c.from_residual.ensures.1 c.in_err-hold_pointer.ensures.own
 
 pub returns-in_err-hold_pointer-clause-passes : goal.returns-in_err-hold_pointer-clause-passes
@@ -68,11 +70,13 @@ returns-in_err-next-clause-looks g c = λ image tells. handed_on c.from_residual
     c.from_residual-in_err-next.ensures.0 c.from_residual-in_err-next.ensures.1
     (inr (link_refused (viewed c.args.store.now image c.args.batch.now) c.args.owner.0 c.len.result
     c.args.pointers.now.items c.push.new.self.items c.args.n c.lent-page.result.now
-    c.in_err-next.field-0.0 (omega arith) (as_started g.D.Disk.meaning c.args.store.now c.hold_pointer.new.store image
+    c.in_err-next.field-0.0 (omega arith) (as_started g.D.Disk.meaning c.args.store.now
+    c.hold_pointer.new.store image
     c.args.batch.now c.in_ok-hold_pointer.ensures.keeps tells
     (λ (pages : Pages). c.lent-page.result.now ≡ pages c.args.n.0) (c.lent-page.ensures.seen image))
     (pointer_tested c.hold_pointer.new.store c.args.batch.now.pages c.args.owner.0 c.len.result
-    c.args.n c.lent-page.result.now c.lent-page.ensures.read c.in_ok-hold_pointer.ensures.held) c.in_ok-push.ensures.items
+    c.args.n c.lent-page.result.now c.lent-page.ensures.read c.in_ok-hold_pointer.ensures.held)
+    c.in_ok-push.ensures.items
     c.in_err-next.ensures))
 
 pub returns-in_err-next-clause-keeps : goal.returns-in_err-next-clause-keeps
@@ -102,7 +106,8 @@ pub returns-in-Some-clause-passes : goal.returns-in-Some-clause-passes
 returns-in-Some-clause-passes g c = here_passes c.args.pointers.now.items c.args.pointers.now.items
     c.args.n.0 c.args.rest c.args.store.now.geometry.size c.lent-page.result.now c.lent-page.result.now
     c.requires.geometry.size (c.lent-page.ensures.len
-    ∙ ap (λ (k : Geometry). k.size) c.in_ok-hold_pointer.ensures.keeps.geometry) (pointer_lawful c.hold_pointer.new.store c.args.batch.now.pages c.args.owner.0 c.len.result
+    ∙ ap (λ (k : Geometry). k.size) c.in_ok-hold_pointer.ensures.keeps.geometry) (pointer_lawful
+    c.hold_pointer.new.store c.args.batch.now.pages c.args.owner.0 c.len.result
     c.args.n c.lent-page.result.now c.lent-page.ensures.read c.in_ok-hold_pointer.ensures.held) refl
     c.in-Some.found refl c.in-Some.ensures.0
 
@@ -112,8 +117,10 @@ returns-in-Some-clause-looks g c = λ image tells. looks_here
     c.args.pointers.now.items c.args.n.0 c.args.rest c.lent-page.result.now (omega arith)
     (as_started g.D.Disk.meaning c.args.store.now c.hold_pointer.new.store image
     c.args.batch.now c.in_ok-hold_pointer.ensures.keeps tells
-    (λ (pages : Pages). c.lent-page.result.now ≡ pages c.args.n.0) (c.lent-page.ensures.seen image)) (pointer_tested c.hold_pointer.new.store c.args.batch.now.pages c.args.owner.0 c.len.result
-    c.args.n c.lent-page.result.now c.lent-page.ensures.read c.in_ok-hold_pointer.ensures.held) c.lent-page.result.now
+    (λ (pages : Pages). c.lent-page.result.now ≡ pages c.args.n.0) (c.lent-page.ensures.seen image))
+    (pointer_tested c.hold_pointer.new.store c.args.batch.now.pages c.args.owner.0 c.len.result
+    c.args.n c.lent-page.result.now c.lent-page.ensures.read c.in_ok-hold_pointer.ensures.held)
+    c.lent-page.result.now
     c.in-Some.found refl c.in-Some.ensures
 
 pub returns-clause-keeps : goal.returns-clause-keeps
@@ -126,7 +133,8 @@ pub returns-clause-passes : goal.returns-clause-passes
 returns-clause-passes g c = past_passes c.args.pointers.now.items c.push.new.self.items
     c.args.n.0 c.args.rest c.args.store.now.geometry.size c.lent-page.result.now c.lent-page.result.now
     c.requires.geometry.size (c.lent-page.ensures.len
-    ∙ ap (λ (k : Geometry). k.size) c.in_ok-hold_pointer.ensures.keeps.geometry) (pointer_lawful c.hold_pointer.new.store c.args.batch.now.pages c.args.owner.0 c.len.result
+    ∙ ap (λ (k : Geometry). k.size) c.in_ok-hold_pointer.ensures.keeps.geometry) (pointer_lawful
+    c.hold_pointer.new.store c.args.batch.now.pages c.args.owner.0 c.len.result
     c.args.n c.lent-page.result.now c.lent-page.ensures.read c.in_ok-hold_pointer.ensures.held) refl
     c.entry_count.result c.in_ok-next.next c.in_ok-push.ensures.items
     c.in_ok-next.ensures c.entry_count.ensures.is
@@ -137,8 +145,10 @@ returns-clause-looks g c = λ image tells. looks_past
     c.args.pointers.now.items c.args.n.0 c.args.rest c.lent-page.result.now (omega arith)
     (as_started g.D.Disk.meaning c.args.store.now c.hold_pointer.new.store image
     c.args.batch.now c.in_ok-hold_pointer.ensures.keeps tells
-    (λ (pages : Pages). c.lent-page.result.now ≡ pages c.args.n.0) (c.lent-page.ensures.seen image)) (pointer_tested c.hold_pointer.new.store c.args.batch.now.pages c.args.owner.0 c.len.result
-    c.args.n c.lent-page.result.now c.lent-page.ensures.read c.in_ok-hold_pointer.ensures.held) c.lent-page.result.now
+    (λ (pages : Pages). c.lent-page.result.now ≡ pages c.args.n.0) (c.lent-page.ensures.seen image))
+    (pointer_tested c.hold_pointer.new.store c.args.batch.now.pages c.args.owner.0 c.len.result
+    c.args.n c.lent-page.result.now c.lent-page.ensures.read c.in_ok-hold_pointer.ensures.held)
+    c.lent-page.result.now
     c.lent-page.result.now c.push.new.self.items c.entry_count.result c.in_ok-next.next
     refl refl c.in_default.ensures c.entry_count.ensures.is
     c.in_ok-next.ensures

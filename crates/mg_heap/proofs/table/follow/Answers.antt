@@ -30,18 +30,21 @@ returns-in_err-linked-clause-follows g c = λ image tells. handed_on c.from_resi
     c.from_residual-in_err-linked.ensures.0 c.from_residual-in_err-linked.ensures.1
     (inr (link_refused (viewed c.args.store.now image c.args.batch.now) c.args.owner.0 c.len.result
     c.args.pointers.now.items c.push.new.self.items c.args.n c.lent-page.result.now
-    c.in_err-linked.field-0.0 (omega arith) (as_started g.D.Disk.meaning c.args.store.now c.hold_pointer.new.store image
+    c.in_err-linked.field-0.0 (omega arith) (as_started g.D.Disk.meaning c.args.store.now
+    c.hold_pointer.new.store image
     c.args.batch.now c.in_ok-hold_pointer.ensures.keeps tells
     (λ (pages : Pages). c.lent-page.result.now ≡ pages c.args.n.0) (c.lent-page.ensures.seen image))
     (pointer_tested c.hold_pointer.new.store c.args.batch.now.pages c.args.owner.0 c.len.result
-    c.args.n c.lent-page.result.now c.lent-page.ensures.read c.in_ok-hold_pointer.ensures.held) c.in_ok-push.ensures.items
+    c.args.n c.lent-page.result.now c.lent-page.ensures.read c.in_ok-hold_pointer.ensures.held)
+    c.in_ok-push.ensures.items
     c.in_err-linked.ensures))
 
 pub returns-clause-few : goal.returns-clause-few
 returns-clause-few g c = entries_few c.lent-page.result.now c.args.data_pages.now.items
     c.add_entries.new.data_pages.items c.args.store.now.geometry.size c.requires.geometry.size
     (c.lent-page.ensures.len
-    ∙ ap (λ (k : Geometry). k.size) c.in_ok-hold_pointer.ensures.keeps.geometry) (pointer_lawful c.hold_pointer.new.store c.args.batch.now.pages c.args.owner.0 c.len.result
+    ∙ ap (λ (k : Geometry). k.size) c.in_ok-hold_pointer.ensures.keeps.geometry) (pointer_lawful
+    c.hold_pointer.new.store c.args.batch.now.pages c.args.owner.0 c.len.result
     c.args.n c.lent-page.result.now c.lent-page.ensures.read c.in_ok-hold_pointer.ensures.held)
     c.in_ok-add_entries.ensures
 
@@ -57,7 +60,8 @@ returns-clause-follows g c = λ image tells. follows_page
     c.args.data_pages.now.items c.add_entries.new.data_pages.items c.in_ok-linked.field-0.0
     (omega arith) (as_started g.D.Disk.meaning c.args.store.now c.hold_pointer.new.store image
     c.args.batch.now c.in_ok-hold_pointer.ensures.keeps tells
-    (λ (pages : Pages). c.lent-page.result.now ≡ pages c.args.n.0) (c.lent-page.ensures.seen image)) (pointer_tested c.hold_pointer.new.store c.args.batch.now.pages c.args.owner.0 c.len.result
+    (λ (pages : Pages). c.lent-page.result.now ≡ pages c.args.n.0) (c.lent-page.ensures.seen image))
+    (pointer_tested c.hold_pointer.new.store c.args.batch.now.pages c.args.owner.0 c.len.result
     c.args.n c.lent-page.result.now c.lent-page.ensures.read c.in_ok-hold_pointer.ensures.held)
     c.in_ok-add_entries.ensures
     c.in_ok-linked.ensures
@@ -67,11 +71,13 @@ returns-in_err-hold_pointer-clause-keeps g c = c.in_err-hold_pointer.ensures.kee
 
 pub returns-in_err-hold_pointer-clause-fault : goal.returns-in_err-hold_pointer-clause-fault
 returns-in_err-hold_pointer-clause-fault g c = fault_same (Unit {0}) g.D.Disk.meaning c.args.store.now
-    c.hold_pointer.new.store c.from_residual.result c.in_err-hold_pointer.field-0.0 c.from_residual.ensures.0
+    c.hold_pointer.new.store c.from_residual.result c.in_err-hold_pointer.field-0.0
+    c.from_residual.ensures.0
     c.from_residual.ensures.1 c.in_err-hold_pointer.ensures.fault
 
 pub returns-in_err-hold_pointer-clause-own : goal.returns-in_err-hold_pointer-clause-own
-returns-in_err-hold_pointer-clause-own g c = reads_same (Unit {0}) c.from_residual.result c.in_err-hold_pointer.field-0.0
+returns-in_err-hold_pointer-clause-own g c = reads_same (Unit {0}) c.from_residual.result
+    c.in_err-hold_pointer.field-0.0
     c.from_residual.ensures.0 c.from_residual.ensures.1 c.in_err-hold_pointer.ensures.own
 
 pub returns-in_err-hold_pointer-clause-few : goal.returns-in_err-hold_pointer-clause-few

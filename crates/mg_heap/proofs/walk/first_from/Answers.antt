@@ -72,20 +72,23 @@ returns-in_err-hold_table_data-clause-fault g c = fault_up (Unit {0}) g.D.Disk.m
     c.in_err-hold_table_data.ensures.fault
 
 pub returns-in_err-hold_table_data-clause-gives : goal.returns-in_err-hold_table_data-clause-gives
-returns-in_err-hold_table_data-clause-gives g c = λ image tells. handed_on c.from_residual-in_err-hold_table_data.result
+returns-in_err-hold_table_data-clause-gives g c = λ image tells. handed_on
+    c.from_residual-in_err-hold_table_data.result
     c.in_err-hold_table_data.field-0.0 _
     (RefusesFrom g.D.Disk.meaning c.hold_table_data.new.store c.args.batch.now.pages
     (viewed c.args.store.now image c.args.batch.now) c.args.owner.0 c.args.start)
     c.from_residual-in_err-hold_table_data.ensures.0 c.from_residual-in_err-hold_table_data.ensures.1
     (place_unlike g.D.Disk.meaning c.hold_table_data.new.store c.args.batch.now.pages
     (viewed c.args.store.now image c.args.batch.now) c.args.owner.0 c.args.start c.loop-next.place
-    c.in-Some.n c.in_err-hold_table_data.field-0.0 c.loop-next.invariant.from (c.loop-next.invariant.empty image tells)
+    c.in-Some.n c.in_err-hold_table_data.field-0.0 c.loop-next.invariant.from
+    (c.loop-next.invariant.empty image tells)
     (subst (FindsPlace (viewed c.args.store.now image c.args.batch.now) c.args.owner.0 c.loop-next.place)
     c.in-Some.is (c.loop-next.invariant.found image tells))
     (as_started g.D.Disk.meaning c.args.store.now c.loop-next.store image c.args.batch.now
     c.loop-next.invariant.keeps tells (λ (pages : Pages). RefusesTableData g.D.Disk.meaning
     c.hold_table_data.new.store c.args.batch.now.pages (pages c.in-Some.n.0) c.args.owner.0
-    c.loop-next.place c.in-Some.n c.in_err-hold_table_data.field-0.0) (c.in_err-hold_table_data.ensures.seen image)))
+    c.loop-next.place c.in-Some.n c.in_err-hold_table_data.field-0.0)
+    (c.in_err-hold_table_data.ensures.seen image)))
 
 pub returns-in-Some-first_record-clause-keeps : goal.returns-in-Some-first_record-clause-keeps
 returns-in-Some-first_record-clause-keeps g c = keeps_on g.D.Disk.meaning g.met.D.Disk.counts_now
@@ -155,7 +158,8 @@ returns-in_err-next-2-clause-fault g c = fault_up (Option PageNo) g.D.Disk.meani
     c.hold_table_data.new.store c.data_page_at-in-Some.new.store c.from_residual-in_err-next-2.result
     c.in_err-next-2.field-0.0 (keeps_on g.D.Disk.meaning g.met.D.Disk.counts_now c.args.store.now
     c.loop-next.store c.hold_table_data.new.store c.loop-next.invariant.keeps
-    c.in_ok-hold_table_data.ensures.keeps) (c.in_ok-hold_table_data.ensures.fault.2 ∙ c.loop-next.invariant.faults)
+    c.in_ok-hold_table_data.ensures.keeps) (c.in_ok-hold_table_data.ensures.fault.2 ∙
+    c.loop-next.invariant.faults)
     c.from_residual-in_err-next-2.ensures.0 c.from_residual-in_err-next-2.ensures.1
     c.in_err-next-2.ensures.fault
 
@@ -187,7 +191,8 @@ returns-in_err-next-2-clause-gives g c = λ image tells. handed_on c.from_residu
     (as_started g.D.Disk.meaning c.args.store.now c.hold_table_data.new.store image c.args.batch.now
     (keeps_on g.D.Disk.meaning g.met.D.Disk.counts_now c.args.store.now c.loop-next.store
     c.hold_table_data.new.store c.loop-next.invariant.keeps c.in_ok-hold_table_data.ensures.keeps) tells
-    (λ (pages : Pages). RefusesPlace g.D.Disk.meaning c.data_page_at-in-Some.new.store c.args.batch.now.pages
+    (λ (pages : Pages). RefusesPlace g.D.Disk.meaning c.data_page_at-in-Some.new.store
+    c.args.batch.now.pages
     pages c.args.owner.0 (c.loop-next.place + 1) c.in_err-next-2.field-0.0)
     (c.in_err-next-2.ensures.finds image)))
 
@@ -198,7 +203,8 @@ loop-next-preserved g c = record {
       (keeps_on g.D.Disk.meaning g.met.D.Disk.counts_now c.args.store.now c.loop-next.store
       c.hold_table_data.new.store c.loop-next.invariant.keeps c.in_ok-hold_table_data.ensures.keeps)
       c.in_ok-next-2.ensures.keeps;
-  faults = c.in_ok-next-2.ensures.fault.2 ∙ (c.in_ok-hold_table_data.ensures.fault.2 ∙ c.loop-next.invariant.faults);
+  faults = c.in_ok-next-2.ensures.fault.2 ∙ (c.in_ok-hold_table_data.ensures.fault.2 ∙
+      c.loop-next.invariant.faults);
   from = further c.args.start c.loop-next.place c.loop-next.invariant.from;
   few = c.in_ok-next-2.ensures.few;
   empty = λ image tells. one_empty (viewed c.args.store.now image c.args.batch.now) c.args.owner.0

@@ -45,7 +45,8 @@ returns-in_err-hold_table_data-clause-lawful g c = no_answer _ c.from_residual.r
 
 pub lent-bytes-requires-clause-whole : goal.lent-bytes-requires-clause-whole
 lent-bytes-requires-clause-whole g c = whole_later g.D.Disk.meaning c.args.store.now
-    c.hold_table_data.new.store c.in_ok-hold_table_data.ensures.keeps c.args.batch.now.pages c.requires.whole
+    c.hold_table_data.new.store c.in_ok-hold_table_data.ensures.keeps c.args.batch.now.pages
+    c.requires.whole
 
 pub returns-in_err-from_slice-clause-keeps : goal.returns-in_err-from_slice-clause-keeps
 returns-in_err-from_slice-clause-keeps g c = c.in_ok-hold_table_data.ensures.keeps
