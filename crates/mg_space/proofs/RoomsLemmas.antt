@@ -6,5 +6,5 @@ use Rattle.mg_space.specs.Lawful.{IsLawfulPage}
 
 pub tested_data : (page : ℕ) (bytes : List ℕ) (passes : Bool) → passes ≡ true
     → OnTrue passes (IsLawfulPage page bytes) → IsDataPage bytes
-tested_data page bytes true yes told = told.lawful
-tested_data page bytes false yes told = absurd cc
+tested_data page bytes true is told = told.lawful
+tested_data page bytes false is told = absurd cc
