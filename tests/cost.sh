@@ -4,7 +4,8 @@
 #
 #   tests/cost.sh PROGRAM [FOLDER]     the built program; a folder for the files (usual: /dev/shm, which is memory)
 #
-# Each load is run at one size and at twice that size, so that the growth is seen.
+# Each load is run at one size and at twice that size, so that the growth is seen; scans and statements over all rows at ten
+# times the size.
 program=$(readlink -f "${1:?the program}")
 folder=$(mktemp -d -p "${2:-/dev/shm}")
 trap 'rm -rf "$folder"' EXIT
@@ -29,7 +30,7 @@ load() {
     { echo "PRAGMA page_size=$page; PRAGMA journal_mode=WAL; PRAGMA synchronous=FULL;"; "$make" theirs "$size"; } > "$folder/sql"
     own=$(seconds ours)
     command -v sqlite3 > /dev/null && lite=$(seconds theirs)
-    printf '%-52s %6d %8d %8s %8s %8s %8s\n' "$name" "$page" "$size" ${own} ${lite}
+    printf '%-56s %6d %8d %8s %8s %8s %8s\n' "$name" "$page" "$size" ${own} ${lite}
 }
 
 # Single rows, each committed by itself, over 100 keys.
@@ -39,6 +40,17 @@ puts() {
     else
         awk -v n="$2" 'BEGIN { print "CREATE TABLE KV (K INTEGER PRIMARY KEY, V INTEGER);"
             for (i = 0; i < n; i++) print "INSERT INTO KV VALUES (" i % 100 ", " i ") ON CONFLICT (K) DO UPDATE SET V = excluded.V;" }'
+    fi
+}
+
+# The same over 20,000 keys, which are put in first, by transactions of 1,000.
+far_puts() {
+    inserts "$1" 20000
+    if [ "$1" = ours ]; then
+        awk -v n="$2" 'BEGIN { for (i = 0; i < n; i++) print "@put", i * 7919 % 20000, i }'
+    else
+        awk -v n="$2" 'BEGIN { for (i = 0; i < n; i++)
+            print "INSERT INTO KV VALUES (" i * 7919 % 20000 ", " i ") ON CONFLICT (K) DO UPDATE SET V = excluded.V;" }'
     fi
 }
 
@@ -59,6 +71,16 @@ gets() {
         awk -v n="$2" 'BEGIN { for (i = 0; i < n; i++) print "@get", i % 100 }'
     else
         awk -v n="$2" 'BEGIN { for (i = 0; i < n; i++) print "SELECT * FROM KV WHERE K = " i % 100 ";" }'
+    fi
+}
+
+# The same of a table of 20,000 rows, which are put in first, by transactions of 1,000.
+far_gets() {
+    inserts "$1" 20000
+    if [ "$1" = ours ]; then
+        awk -v n="$2" 'BEGIN { for (i = 0; i < n; i++) print "@get", i * 7919 % 20000 }'
+    else
+        awk -v n="$2" 'BEGIN { for (i = 0; i < n; i++) print "SELECT * FROM KV WHERE K = " i * 7919 % 20000 ";" }'
     fi
 }
 
@@ -158,15 +180,18 @@ taken_back() {
 }
 
 # By the clock, and of a processor.
-printf '%-52s %6s %8s %8s %8s %8s %8s\n' load page size mgdb cpu sqlite3 cpu
+printf '%-56s %6s %8s %8s %8s %8s %8s\n' load page size mgdb cpu sqlite3 cpu
 for twice in 1 2; do
+    tenfold=$((twice == 1 ? 1 : 10))
     load 'rows put one by one, over 100 keys' puts $((10000 * twice))
     load 'reads by key, a table of 100 rows' gets $((10000 * twice))
-    load 'new rows put one by one' new_puts $((10000 * twice))
-    load 'new rows, 1,000 a transaction' inserts $((10000 * twice))
-    load 'ten scans (with the rows put in)' scans $((10000 * twice))
-    load 'an UPDATE of all rows (with the rows put in)' updated $((10000 * twice))
-    load 'a DELETE of all rows (with the rows put in)' deleted $((10000 * twice))
+    load 'the same puts, over 20,000 keys (with the rows put in)' far_puts $((10000 * twice))
+    load 'the same reads, of 20,000 rows (with the rows put in)' far_gets $((10000 * twice))
+    load 'new rows put one by one' new_puts $((25000 * twice))
+    load 'new rows, 1,000 a transaction' inserts $((25000 * twice))
+    load 'ten scans (with the rows put in)' scans $((2000 * tenfold))
+    load 'an UPDATE of all rows (with the rows put in)' updated $((2000 * tenfold))
+    load 'a DELETE of all rows (with the rows put in)' deleted $((2000 * tenfold))
     load 'rows of 64 columns put in, and a scan' wide $((500 * twice))
     load 'tables made and taken back to a savepoint' taken_back $((16 * twice))
     load 'updates of one row under a held snapshot' updates $((2500 * twice))
