@@ -2,16 +2,31 @@
 """Tests that the pages which name crates and clauses name those that are there.
 
 Each crate of crates.txt stands once in the map of docs/ARCHITECTURE.md and once in docs/PROVED.md, in the section that it
-has there; names in README.md and docs/PROVED.md are names of the code; and README's first script is that of examples/.
-.ci/run calls it. Where a check fails its last line is 'N passed, M failed'."""
+has there, and names each library that its line has; the crates of laws have no code; names in README.md and docs/ are
+names of the code, and files there are files of the repository; README tells how many crates there are, and its first
+script is that of examples/. .ci/run calls it. Where a check fails its last line is 'N passed, M failed'."""
 import os
 import re
 import sys
 
 ROOT = os.path.dirname(os.path.dirname(os.path.abspath(__file__)))
-# Words of scripts, of SQL and of the toolchain, which stand in backticks as names do.
-OTHER = {"rt", "stdin", "stdout", "busy_timeout", "gbak", "DB", "BEGIN", "CONNECT", "INPUT", "COMMIT", "ROLLBACK"}
+# Words of scripts, of SQL, of the system and of the toolchain, which stand in backticks as names do.
+OTHER = {"rt", "stdin", "stdout", "busy_timeout", "gbak", "DB", "BEGIN", "CONNECT", "INPUT", "COMMIT", "ROLLBACK", "SELEC"}
+OTHER |= {"fdatasync", "Pay"}
+# Names of what a recipe of docs/DEVELOPING.md makes, and of a file that stands for any.
+MADE = {"mg_K", "new_k", "check_k", "XLaws"}
+MADE_FILES = {"mg_page_tests/src/tests/k.rt"}
 GREATEST_README = 20_000
+# The pages whose names are tested. docs/PROVING.md speaks of names that a reader gives, and of messages.
+PAGES = ["README.md"] + [f"docs/{it}.md" for it in (
+    "ARCHITECTURE", "DECISIONS", "DEFINITIONS", "DEVELOPING", "FILE-FORMAT", "PROVED", "SCRIPT", "SQL",
+)]
+# Libraries that a line of crates.txt has and its crate does not name. Each costs a proof of all that stands above to take
+# out, so it goes when its crate is proved anyway.
+UNNAMED = {("mg_table_unmaking", "mg_undo"), ("mg_limbo_report", "mg_check_pages")}
+# Crates without code outside of the section of laws: what an image means, and what a run promises, as definitions; and the
+# laws of a crate beside them.
+OTHER_LAWS = {"mg_image", "mg_runs", "mg_release_laws"}
 
 
 def text_of(path):
@@ -33,6 +48,37 @@ def sections():
             if "# not in the program" in line:
                 marked.add(crate[1])
     return found, marked
+
+
+def libraries():
+    """What each line of crates.txt has behind its crate."""
+    lines = re.findall(r"(?m)^(\w+):([^#\n]*)", text_of("crates.txt"))
+    return {crate: rest.split() for crate, rest in lines}
+
+
+def sources(crate, folders, endings):
+    """The texts of a crate's files in these folders, without comments."""
+    for top in folders:
+        for folder, _, names in os.walk(f"{ROOT}/crates/{crate}/{top}"):
+            for name in names:
+                if name.endswith(endings):
+                    with open(f"{folder}/{name}") as file:
+                        yield re.sub(r"(?m)(//|-- ).*$", "", file.read())
+
+
+def unnamed():
+    """The libraries that a line has and no source of its crate names."""
+    for crate, names in libraries().items():
+        words = set()
+        for text in sources(crate, ("src", "specs", "proofs"), (".rt", ".antt")):
+            words.update(re.findall(r"\w+", text))
+        yield from ((crate, name) for name in names if name not in words)
+
+
+def has_code(crate):
+    """Whether a crate has a function that takes or gives something; a law does neither."""
+    function = re.compile(r"\bfn \w+\s*(?:<[^(]*>)?\(([^)]*)\)\s*(->)?")
+    return any(of[1].strip() or of[2] for text in sources(crate, ("src",), ".rt") for of in function.finditer(text))
 
 
 def headed(text, level, entry):
@@ -67,7 +113,29 @@ def unknown(path, words):
     text = re.sub(r"```.*?```", "", text_of(path), flags=re.S)
     names = {it for it in re.findall(r"`([^`\n]+)`", text) if re.fullmatch(r"[A-Za-z]\w*(?:(?:::|\.)\w+)?", it)}
     files = re.compile(r".*\.(md|txt|antt)")
-    return sorted(it for it in names if it not in OTHER and not files.fullmatch(it) and not set(re.split(r"::|\.", it)) <= words)
+    known = OTHER | MADE
+    return sorted(it for it in names if it not in known and not files.fullmatch(it) and not set(re.split(r"::|\.", it)) <= words)
+
+
+def missing(path):
+    """Files of the repository that a page names, and that are not there."""
+    top = r"(?:mg\w+/(?:src|specs|proofs)|crates|docs|tests|examples)"
+    names = set(re.findall(rf"`({top}/[\w./-]+)`", text_of(path))) - MADE_FILES
+    tries = {it: (it, f"crates/{it}", f"crates/{it}.antt") for it in names if not it.endswith("..")}
+    return sorted(it for it, paths in tries.items() if not any(os.path.exists(f"{ROOT}/{at}") for at in paths))
+
+
+def doubled(path):
+    """Headings that a page has twice."""
+    heads = re.findall(r"(?m)^#+ .*$", re.sub(r"(?ms)^```.*?^```", "", text_of(path)))
+    return sorted({it for it in heads if heads.count(it) > 1})
+
+
+def told_counts():
+    """How many crates README says that the program needs, and that there are."""
+    text = text_of("README.md")
+    needed = re.search(r"proves the (\d+) crates that the program needs", text)
+    return int(needed[1]), int(re.search(r"proves all (\d+) crates", text)[1])
 
 
 def first_script():
@@ -93,12 +161,17 @@ def main():
         ("and marks those that the program does not need", marked, noted),
         ("docs/ARCHITECTURE.md has each crate in its section", sorted(map(sorted, given.values())), sorted(map(sorted, drawn.values()))),
         ("and brackets those that the program does not need", marked, bracketed),
-        ("README.md names what is there", [], unknown("README.md", words)),
-        ("docs/PROVED.md names what is there", [], unknown("docs/PROVED.md", words)),
+        ("each line names what its crate names", sorted(UNNAMED), sorted(unnamed())),
+        ("crates of laws have no code", sorted(set(given["Laws"]) | OTHER_LAWS), sorted(it for it in every if not has_code(it))),
+        ("README tells how many crates there are", (len(every) - len(marked), len(every)), told_counts()),
         ("README's first script", script, asked),
         ("and what it prints", text_of("examples/hello.out").splitlines(), told),
         ("README is short", True, len(text_of("README.md").encode()) < GREATEST_README),
     ]
+    for page in PAGES:
+        checks.append((f"{page} names what is there", [], unknown(page, words)))
+        checks.append((f"the files that {page} names are there", [], missing(page)))
+        checks.append((f"{page} has no heading twice", [], doubled(page)))
     failed = [it for it in checks if it[1] != it[2]]
     for name, wanted, found in failed:
         print(f"FAILED: {name}\nwanted: {wanted}\ngiven: {found}")
