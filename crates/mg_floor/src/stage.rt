@@ -54,7 +54,7 @@ where
         requires few { length board.scripts.items ≤ SESSIONS }
         ensures keeper { result.keeper ≡ keeper }
         ensures size { result.size ≡ size }
-        ensures scripts { result.board.scripts.items ≡ board.scripts.items }
+        ensures board { result.board ≡ board }
         ensures ready { IsStage R.meaning R.runs result }
         ensures stands { (o : Opening) → R.meaning.stands keeper o []
             → ((t : ℕ) → is_active (state_of o [] t) ≡ false) → Stands R.meaning R.runs result o [] [] }
