@@ -27,8 +27,8 @@ use Rattle.mg_heap.proofs.WalkLemmas.{page_broken}
 
 -- what is told by a yes
 pub told_true : (b : Bool) (P : Type 0) → b ≡ true → OnTrue b P → P
-told_true true P yes told = told
-told_true false P yes told = absurd cc
+told_true true P is told = told
+told_true false P is told = absurd cc
 
 -- the page before the end is the last one
 pub last_found : (pages : Pages) (owner count : ℕ) (found : Option PageNo) (it : Option LastPlace)

@@ -276,6 +276,7 @@ fn page_at<D: Disk>(
     requires pool { IsPool D.meaning store.old }
     requires geometry { IsGeometry store.old.geometry }
     requires whole { AreWhole store.old.geometry batch.now.pages }
+    requires online { store.old.offline ≡ None }
     requires inside { place < length data_pages.now }
     requires few { length data_pages.now < 2 ^ 32 }
 

@@ -1,4 +1,4 @@
-use Rattle.std.proofs.Common.{◌∙◌, Option, ℕ, sym}
+use Rattle.std.proofs.Common.{◌∙◌, ◌-◌, Option, ℕ, sym}
 use Rattle.mg_base.specs.declared.numbers.PageNo.{PageNo}
 use Rattle.mg_image.specs.Form.{Pages}
 use Rattle.mg_space.specs.HandedLaws.{fault_same, fault_up}
@@ -31,11 +31,11 @@ returns-in_err-count-clause-finds g c = λ image tells. handed_on c.from_residua
     (viewed c.args.store.now image c.args.batch.now) c.args.owner.0)
     c.from_residual.ensures.0 c.from_residual.ensures.1 (c.in_err-count.ensures.counts image tells)
 
-pub returns-then-count-clause-keeps : goal.returns-then-count-clause-keeps
-returns-then-count-clause-keeps g c = c.in_ok-count.ensures.keeps
+pub returns-then-count-eq0-clause-keeps : goal.returns-then-count-eq0-clause-keeps
+returns-then-count-eq0-clause-keeps g c = c.in_ok-count.ensures.keeps
 
-pub returns-then-count-clause-fault : goal.returns-then-count-clause-fault
-returns-then-count-clause-fault g c = c.in_ok-count.ensures.fault
+pub returns-then-count-eq0-clause-fault : goal.returns-then-count-eq0-clause-fault
+returns-then-count-eq0-clause-fault g c = c.in_ok-count.ensures.fault
 
 pub data_page_at-requires-clause-pool : goal.data_page_at-requires-clause-pool
 data_page_at-requires-clause-pool g c = c.in_ok-count.ensures.keeps.pool
@@ -93,7 +93,7 @@ returns-clause-fault g c = (
 
 pub returns-clause-finds : goal.returns-clause-finds
 returns-clause-finds g c = λ image tells. last_found (viewed c.args.store.now image c.args.batch.now)
-    c.args.owner.0 c.in_ok-count.count c.in_ok-found.found c.placed.result c.if-count.false
+    c.args.owner.0 c.in_ok-count.count c.in_ok-found.found c.placed.result c.if-count-eq0.false
     c.placed.ensures (c.in_ok-count.ensures.counts image tells)
     (as_started g.D.Disk.meaning c.args.store.now c.data_page_count.new.store image c.args.batch.now
     c.in_ok-count.ensures.keeps tells (λ (pages : Pages). FindsPlace pages c.args.owner.0

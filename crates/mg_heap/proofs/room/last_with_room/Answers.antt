@@ -1,4 +1,4 @@
-use Rattle.std.proofs.Common.{◌≡◌, ◌∙◌, List, Option, inl, refl, subst, sym}
+use Rattle.std.proofs.Common.{◌≡◌, ◌∙◌, List, Option, inl, refl, subst, sym, ℕ}
 use Rattle.mg_image.specs.Form.{Pages}
 use Rattle.mg_slots.specs.DataPage.{IsDataPage}
 use Rattle.mg_space.specs.HandedLaws.{fault_same, fault_up}

@@ -49,6 +49,9 @@ pub page_at-requires-clause-geometry : goal.page_at-requires-clause-geometry
 page_at-requires-clause-geometry g c = geometry_later g.D.Disk.meaning c.args.store.now c.loop-k.store
     c.loop-k.invariant.keeps c.requires.geometry
 
+pub page_at-requires-clause-online : goal.page_at-requires-clause-online
+page_at-requires-clause-online g c = c.loop-k.invariant.keeps.offline ∙ c.requires.online
+
 pub page_at-requires-clause-whole : goal.page_at-requires-clause-whole
 page_at-requires-clause-whole g c = whole_later g.D.Disk.meaning c.args.store.now c.loop-k.store
     c.loop-k.invariant.keeps c.args.batch.now.pages c.requires.whole
