@@ -97,6 +97,7 @@ module _ {D : Type 0} (m : Meaning D) (table : Table) (bare : IsBare table) wher
   pub bare_there : (before after : Pool D FireLinks) (way : Way) (write : Write) (v : Version)
       (it : Lays m before after table way write v) → laid_in m before after table way write v it
       ≡ bare_in m before after table.pointer.0 way v (bare_lays before after way write v it)
+  unfolding bare_lays
   bare_there before after ways.Make write v it = refl
   bare_there before after (ways.Push rec) write v it = refl
   bare_there before after (ways.PushOverDead rec) write v it = refl
