@@ -23,9 +23,9 @@ returns-in-Err-lay-clause-core g c = core_on g.D.Disk.meaning c.args.self.now c.
 pub returns-in-Ok-lay-clause-lays : goal.returns-in-Ok-lay-clause-lays
 returns-in-Ok-lay-clause-lays g c = record {
   laid = record {
-    may = subst (λ (k : Geometry). MayBeStored k.size c.args.table.now.pointer.0 c.args.version.now) c.geometry.ensures
+    may = subst (λ (k : Geometry). MayBeStored k.size c.args.table.now.pointer.0 c.args.version.now) c.geometry-size.ensures
         (c.may_be_stored.ensures.0 c.if-not-may_be_stored.false);
-    short = subst (λ (k : Geometry). KeysMayBeLaid k.size c.args.table.now c.args.write.now) c.geometry.ensures
+    short = subst (λ (k : Geometry). KeysMayBeLaid k.size c.args.table.now c.args.write.now) c.geometry-size.ensures
         (c.in-Ok.ensures.0 c.if-not-short.false);
     lays = c.in-Ok-lay.ensures.lays.lays;
     same = ap (λ (ws : List Working). record c.args.self.now { store = c.lay.new.store; works = ws })
@@ -36,4 +36,4 @@ returns-in-Ok-lay-clause-lays g c = record {
 
 pub lay-requires-clause-short : goal.lay-requires-clause-short
 lay-requires-clause-short g c = subst (λ (k : Geometry). KeysMayBeLaid k.size c.args.table.now c.args.write.now)
-    c.geometry.ensures (c.in-Ok.ensures.0 c.if-not-short.false)
+    c.geometry-size.ensures (c.in-Ok.ensures.0 c.if-not-short.false)
