@@ -3,7 +3,7 @@
 
 Each crate of crates.txt stands once in the map of docs/ARCHITECTURE.md and once in docs/PROVED.md, in the section that it
 has there, and names each library that its line has; the crates of laws have no code; names in README.md and docs/ are
-names of the code, and files there are files of the repository; README tells how many crates there are, and its first
+names of the code, and files there are files of the repository, of docs/DEFINITIONS.md in the file beside them; README tells how many crates there are, and its first
 script is that of examples/. .ci/run calls it. Where a check fails its last line is 'N passed, M failed'."""
 import os
 import re
@@ -131,6 +131,31 @@ def doubled(path):
     return sorted({it for it in heads if heads.count(it) > 1})
 
 
+def words_by_file(crate):
+    """The words of each file of a crate's src/ and specs/, by the file's name."""
+    found = {}
+    for top in ("src", "specs"):
+        for folder, _, names in os.walk(f"{ROOT}/crates/{crate}/{top}"):
+            for name in names:
+                with open(f"{folder}/{name}") as file:
+                    found.setdefault(name.partition(".")[0], set()).update(re.findall(r"\w+", file.read()))
+    return found
+
+
+def misplaced():
+    """Names in a table of docs/DEFINITIONS.md that none of the files beside them has, in the crates of which their section
+    speaks."""
+    every, known, found = set(os.listdir(f"{ROOT}/crates")), {}, []
+    for section in re.split(r"(?m)^(?=#{2,3} )", text_of("docs/DEFINITIONS.md")):
+        crates = {it for it in re.findall(r"mg_\w+", section) if it in every}
+        known.update({it: words_by_file(it) for it in crates if it not in known})
+        for names, files in re.findall(r"(?m)^\| (`[^|]*) \| ([^|`]*) \| [^|]+\|$", section):
+            places = re.findall(r"\b[A-Z]\w+", files)
+            there = {word for it in crates for place in places for word in known[it].get(place, ())}
+            found += [(it, files) for it in re.findall(r"`(\w+)", names) if places and it not in there]
+    return found
+
+
 def told_counts():
     """How many crates README says that the program needs, and that there are."""
     text = text_of("README.md")
@@ -163,6 +188,7 @@ def main():
         ("and brackets those that the program does not need", marked, bracketed),
         ("each line names what its crate names", sorted(UNNAMED), sorted(unnamed())),
         ("crates of laws have no code", sorted(set(given["Laws"]) | OTHER_LAWS), sorted(it for it in every if not has_code(it))),
+        ("docs/DEFINITIONS.md has each name with its file", [], misplaced()),
         ("README tells how many crates there are", (len(every) - len(marked), len(every)), told_counts()),
         ("README's first script", script, asked),
         ("and what it prints", text_of("examples/hello.out").splitlines(), told),
