@@ -2,9 +2,10 @@
 """Tests that the pages which name crates and clauses name those that are there.
 
 Each crate of crates.txt stands once in the map of docs/ARCHITECTURE.md and once in docs/PROVED.md, in the section that it
-has there, and names each library that its line has; the crates of laws have no code; names in README.md and docs/ are
-names of the code, and files there are files of the repository, of docs/DEFINITIONS.md in the file beside them; README tells how many crates there are, and its first
-script is that of examples/. .ci/run calls it. Where a check fails its last line is 'N passed, M failed'."""
+has there, and names each library that its line has; the crates of laws have no code. Names in README.md and docs/ are
+names of the code, files there are files of the repository, and names of docs/DEFINITIONS.md stand in the files beside
+them. README tells how many crates there are, and its first script is that of examples/. .ci/run calls it. Where a check
+fails its last line is 'N passed, M failed'."""
 import os
 import re
 import sys
