@@ -165,6 +165,22 @@ both_ends() {
     fi
 }
 
+# New rows in one transaction, each put in a second time, which is refused: each refusal takes its statement back.
+refused() {
+    local who= begin='BEGIN;' commit='COMMIT;' insert='INSERT OR IGNORE' end=';'
+    [ "$1" = ours ] && who='A: ' begin='SET TRANSACTION' commit=COMMIT insert=INSERT end=
+    [ "$1" = ours ] || echo 'CREATE TABLE KV (K INTEGER PRIMARY KEY, V INTEGER);'
+    awk -v n="$2" -v who="$who" -v begin="$begin" -v commit="$commit" -v insert="$insert" -v end="$end" '
+        BEGIN {
+            print who begin
+            for (i = 0; i < n; i++) {
+                print who "INSERT INTO KV VALUES (" i ", 0)" end
+                print who insert " INTO KV VALUES (" i ", 1)" end
+            }
+            print who commit
+        }'
+}
+
 # So many tables of four columns, made in one transaction and taken back to a savepoint before them.
 taken_back() {
     local who= begin='BEGIN;' end=';'
@@ -193,6 +209,7 @@ for twice in 1 2; do
     load 'an UPDATE of all rows (with the rows put in)' updated $((2000 * tenfold))
     load 'a DELETE of all rows (with the rows put in)' deleted $((2000 * tenfold))
     load 'rows of 64 columns put in, and a scan' wide $((500 * twice))
+    load 'new rows, each refused a second time' refused $((1000 * twice))
     load 'tables made and taken back to a savepoint' taken_back $((16 * twice))
     load 'updates of one row under a held snapshot' updates $((2500 * twice))
     load 'the same, and reads of the newest version' both_ends $((2500 * twice))
