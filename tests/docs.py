@@ -4,7 +4,7 @@
 Each crate of crates.txt stands once in the map of docs/ARCHITECTURE.md and once in docs/PROVED.md, in the section that it
 has there, and names each library that its line has; the crates of laws have no code. Names in README.md and docs/ are
 names of the code, files there are files of the repository, and names of docs/DEFINITIONS.md stand in the files beside
-them. README tells how many crates there are, and its first script is that of examples/. .ci/run calls it. Where a check
+them, those of docs/PROVED.md in the crate. README tells how many crates there are, and its first script is that of examples/. .ci/run calls it. Where a check
 fails its last line is 'N passed, M failed'."""
 import os
 import re
@@ -157,6 +157,20 @@ def misplaced():
     return found
 
 
+def foreign():
+    """Names in an entry of docs/PROVED.md that neither its crate has nor another one that the entry names."""
+    every, known, found = set(os.listdir(f"{ROOT}/crates")), {}, []
+    for entry in re.split(r"(?m)^(?=##+ )", text_of("docs/PROVED.md")):
+        if head := re.match(r"### (\w+)", entry):
+            crates = {it for it in re.findall(r"mg_\w+", entry) if it in every} | {head[1]}
+            known.update({it: words_by_file(it) for it in crates if it not in known})
+            words = {word for it in crates for place in known[it] for word in known[it][place] | {place}} | every
+            names = re.findall(r"`([A-Za-z]\w*(?:(?:::|\.)\w+)?)`", entry)
+            parts = {part for it in names if not it.endswith(".antt") for part in re.split(r"::|\.", it)}
+            found += [(head[1], it) for it in sorted(parts - words - OTHER)]
+    return found
+
+
 def told_counts():
     """How many crates README says that the program needs, and that there are."""
     text = text_of("README.md")
@@ -190,6 +204,7 @@ def main():
         ("each line names what its crate names", sorted(UNNAMED), sorted(unnamed())),
         ("crates of laws have no code", sorted(set(given["Laws"]) | OTHER_LAWS), sorted(it for it in every if not has_code(it))),
         ("docs/DEFINITIONS.md has each name with its file", [], misplaced()),
+        ("docs/PROVED.md has each name with its crate", [], foreign()),
         ("README tells how many crates there are", (len(every) - len(marked), len(every)), told_counts()),
         ("README's first script", script, asked),
         ("and what it prints", text_of("examples/hello.out").splitlines(), told),
