@@ -18,6 +18,11 @@ OTHER |= {"fdatasync", "Pay"}
 MADE = {"mg_K", "new_k", "check_k", "XLaws"}
 MADE_FILES = {"mg_page_tests/src/tests/k.rt"}
 GREATEST_README = 20_000
+# The crates of page kinds, by the heading of docs/FILE-FORMAT.md that draws the same page.
+KINDS = {
+    "Header page": "mg_header", "Page inventory page": "mg_pip", "Transaction inventory page": "mg_tip",
+    "Pointer page": "mg_pointer", "Data page": "mg_slots", "Index page": "mg_node",
+}
 # The pages whose names are tested. docs/PROVING.md speaks of names that a reader gives, and of messages.
 PAGES = ["README.md"] + [f"docs/{it}.md" for it in (
     "ARCHITECTURE", "DECISIONS", "DEFINITIONS", "DEVELOPING", "FILE-FORMAT", "PROVED", "SCRIPT", "SQL",
@@ -171,6 +176,18 @@ def foreign():
     return found
 
 
+def layouts():
+    """Where the fields of each kind of page stand and how wide they are, behind the common part: by docs/FILE-FORMAT.md, and
+    by the crates' root comments."""
+    row = r"\| (\d+) \| ?([^|]*?) ?\| .*"
+    drawn = {}
+    for section in text_of("docs/FILE-FORMAT.md").split("\n## "):
+        table = re.search(r"\| at \| width \|.*\n\|[-|]*\n((?:\|.*\n)*)", section)
+        drawn[section.split("\n")[0]] = re.findall(row, table[1]) if table else []
+    coded = {it: re.findall(rf"(?m)^//! {row}$", text_of(f"crates/{it}/src/lib.rt")) for it in KINDS.values()}
+    return {it: drawn[it] for it in KINDS}, {it: [row for row in coded[KINDS[it]] if row[0] != "0"] for it in KINDS}
+
+
 def told_counts():
     """How many crates README says that the program needs, and that there are."""
     text = text_of("README.md")
@@ -195,7 +212,9 @@ def main():
     words = names_of_code()
     asked, told = first_script()
     script = [line for line in text_of("examples/hello.script").splitlines() if line and not line.startswith("--")]
+    drawn_pages, coded_pages = layouts()
     checks = [
+        ("docs/FILE-FORMAT.md draws pages as the crates do", drawn_pages, coded_pages),
         ("each crate has a line", sorted(os.listdir(f"{ROOT}/crates")), sorted(every)),
         ("docs/PROVED.md has each crate in its section", {w: sorted(c) for w, c in given.items()}, {w: sorted(c) for w, c in proved.items()}),
         ("and marks those that the program does not need", marked, noted),
