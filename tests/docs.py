@@ -87,6 +87,13 @@ def has_code(crate):
     return any(of[1].strip() or of[2] for text in sources(crate, ("src",), ".rt") for of in function.finditer(text))
 
 
+def not_below():
+    """What the map says that a crate stands on and its line of crates.txt doesn't name."""
+    names = libraries()
+    rows = re.findall(r"(?m)^\| \(?`(mg\w*)`\)? \| .* \| (.*) \|$", text_of("docs/ARCHITECTURE.md"))
+    return [(crate, it) for crate, below in rows if crate in names for it in re.findall(r"`(\w+)`", below) if it not in names[crate]]
+
+
 def headed(text, level, entry):
     """What the entries under each heading of a level are, in their order."""
     found, word = {}, None
@@ -220,6 +227,7 @@ def main():
         ("and marks those that the program does not need", marked, noted),
         ("docs/ARCHITECTURE.md has each crate in its section", sorted(map(sorted, given.values())), sorted(map(sorted, drawn.values()))),
         ("and brackets those that the program does not need", marked, bracketed),
+        ("a crate of the map stands on libraries that its line names", [], not_below()),
         ("each line names what its crate names", sorted(UNNAMED), sorted(unnamed())),
         ("crates of laws have no code", sorted(set(given["Laws"]) | OTHER_LAWS), sorted(it for it in every if not has_code(it))),
         ("docs/DEFINITIONS.md has each name with its file", [], misplaced()),
