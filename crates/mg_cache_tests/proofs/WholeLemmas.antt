@@ -6,31 +6,16 @@ use Rattle.mg_base.specs.declared.geometry.Geometry.{Geometry}
 use Rattle.mg_pool.specs.declared.batch.BatchPage.{BatchPage}
 use Rattle.mg_pool.specs.Batch.{Changed, PutsPage}
 use Rattle.mg_pool.specs.declared.pool.Pool.{Pool}
-use Rattle.mg_base.specs.Disk.{Meaning}
 use Rattle.mg_base.specs.MemDisk.{mem_meaning}
 use Rattle.mg_base.specs.declared.mem_disk.MemDisk.{MemDisk}
 use Rattle.mg_pool.specs.Pool.{IsPool}
-use Rattle.mg_space.specs.View.{AreWhole, KeepsStore}
+use Rattle.mg_space.specs.View.{AreWhole}
 use Rattle.mg_base.specs.declared.numbers.PageNo.{PageNo}
 use Rattle.mg_space.specs.declared.fault.SpaceFault.{SpaceFault}
 use Rattle.mg_space.specs.Taking.{IsGeometry, PutsInventory}
 use Rattle.mg_heap.specs.GrowthLaws.{whole_taken}
 use Rattle.mg_space.specs.ViewLaws.{whole_on}
-use Rattle.mg_space.specs.WholeLaws.{whole_as, whole_kept as kept_whole}
-
--- they stay so behind a call that leaves the geometry
-pub whole_moved : (old new : Geometry) (pages : List BatchPage) → new ≡ old → AreWhole old pages → AreWhole new pages
-whole_moved old new pages same whole = whole_as old new pages (sym same) whole
-
--- and behind one that keeps the store
-pub whole_kept : {D L : Type 0} (m : Meaning D) (old new : Pool D L) (pages : List BatchPage) → KeepsStore m old new
-    → AreWhole old.geometry pages → AreWhole new.geometry pages
-whole_kept m old new pages kept whole = kept_whole m old new pages kept whole
-
--- and where one is put
-pub whole_added : (g : Geometry) (old new : Changed) (page : ℕ) (bytes : List ℕ) → AreWhole g old.pages
-    → length bytes ≡ g.size → page < g.limit → PutsPage old new page bytes → AreWhole g new.pages
-whole_added g old new page bytes whole len below puts = whole_on g old new page bytes whole len below puts
+use Rattle.mg_space.specs.WholeLaws.{whole_as}
 
 -- what is so by each geometry with room for some page is so by one of them
 pub whole_below : (bound limit : ℕ) (g : Geometry) (pages : List BatchPage)
@@ -59,7 +44,7 @@ ready_moved old new pages pool same geometry size whole = (
   pool,
   subst IsGeometry (sym same) geometry,
   ap (λ (g : Geometry). g.size) same ∙ size,
-  whole_moved old.geometry new.geometry pages same whole,
+  whole_as old.geometry new.geometry pages (sym same) whole,
 )
 
 -- what holds at any rate holds where a test is true
