@@ -149,7 +149,7 @@ def words_by_file(crate):
     found = {}
     for top in ("src", "specs"):
         for folder, _, names in os.walk(f"{ROOT}/crates/{crate}/{top}"):
-            for name in names:
+            for name in (it for it in names if it.endswith((".rt", ".antt"))):
                 with open(f"{folder}/{name}") as file:
                     found.setdefault(name.partition(".")[0], set()).update(re.findall(r"\w+", file.read()))
     return found
