@@ -81,7 +81,7 @@ small_repository() {
     cat > "$work/small/bin/rt" <<'RT'
 #!/usr/bin/env bash
 [ "$*" == ci ] || exit 9
-echo "rt: low proved"
+if [ -e "$KEPT" ]; then echo 'rt: low is kept: an earlier run proved it'; else echo 'rt: low proved'; fi
 [ -e "$SLOW" ] && sleep 2
 [ -e "$REFUSES" ] && { echo 'rt: mgdb NOT PROVED'; exit 1; }
 mkdir -p crates/mgdb/out
@@ -92,7 +92,7 @@ RT
 }
 
 # What ./mgdb of the small repository prints, and tells, and its status.
-small() { (cd "$work" && SLOW=$work/slow REFUSES=$work/refuses PATH="$work/small/bin:$PATH" small/mgdb "$@" 2> told; echo "status $?"); }
+small() { (cd "$work" && SLOW=$work/slow KEPT=$work/kept REFUSES=$work/refuses PATH="$work/small/bin:$PATH" small/mgdb "$@" 2> told; echo "status $?"); }
 built() { grep -c 'built the program' "$work/told"; }
 # A source that changes after the program was built.
 later() { touch -d '+1 minute' "$work/small/crates/$1"; }
@@ -135,8 +135,13 @@ tells_each_minute() {
     touch "$work/slow"
     sed -i 's/^minute=60$/minute=1/' "$work/small/mgdb"
     small > /dev/null
-    check 'each minute it tells how far it is' 'yes' "$(grep -q '^mgdb: 0 min, 1 of 2 crates are proved, about 50 % of the work$' "$work/told" && echo yes)"
-    rm "$work/slow"
+    check 'each minute it tells how far it is, and how much is left' 'yes' \
+        "$(grep -q '^mgdb: 0 min, 1 of 2 crates are proved, about 50 % of the work; at this pace 1 min more$' "$work/told" && echo yes)"
+    rm "$work/small/crates/mgdb/out/mgdb"
+    touch "$work/kept"
+    small > /dev/null
+    check 'what was kept tells no pace' 'yes' "$(grep -q '^mgdb: 0 min, 1 of 2 crates are proved, about 50 % of the work$' "$work/told" && echo yes)"
+    rm "$work/slow" "$work/kept"
 }
 
 crates_that_are_taken
