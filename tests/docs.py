@@ -3,9 +3,9 @@
 
 Each crate of crates.txt stands once in the map of docs/ARCHITECTURE.md and once in docs/PROVED.md, in the section that it
 has there, and names each library that its line has; the crates of laws have no code. Names in README.md and docs/ are
-names of the code, files there are files of the repository, and names of docs/DEFINITIONS.md stand in the files beside
-them, those of docs/PROVED.md in the crate. README tells how many crates there are, and its first script is that of examples/. .ci/run calls it. Where a check
-fails its last line is 'N passed, M failed'."""
+names of the code, files there are files of the repository, names of docs/DEFINITIONS.md stand in the files beside them,
+those of docs/PROVED.md in the crate, and pages are drawn as in their crates. README tells how many crates there are, and
+its first script is that of examples/. .ci/run calls it. Where a check fails its last line is 'N passed, M failed'."""
 import os
 import re
 import sys
