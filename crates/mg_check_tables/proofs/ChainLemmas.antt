@@ -1,6 +1,6 @@
 -- The walk over the pointer pages of a table.
-use Rattle.std.specs.Prelude.{◌≡◌, ◌≢◌, ◌↔◌, ◌⊎◌, ◌<◌, ◌≤◌, ◌+◌, ◌*◌, ℕ, List, Result, Ok, Err, OnOk, length}
-use Rattle.std.proofs.Common.{refl, sym, ap, ◌∙◌, inl, inr, arith, subst}
+use Rattle.std.specs.Prelude.{◌≡◌, ◌≢◌, ◌↔◌, ◌⊎◌, ◌<◌, ◌≤◌, ◌+◌, ◌*◌, ℕ, List, Result, Ok, Err, OnOk}
+use Rattle.std.proofs.Common.{refl, sym, ◌∙◌, inl, inr, arith, subst}
 use Rattle.std.proofs.lemmas.Bool.{cases_lt}
 use Rattle.mg_base.specs.Checks.{verdict}
 use Rattle.mg_base.specs.Fields.{u32_at}
@@ -10,7 +10,7 @@ use Rattle.mg_base.specs.declared.fields.TheConstants.{SEQUENCE_AT}
 use Rattle.mg_base.specs.declared.geometry.TheConstants.{GREATEST_LIMIT}
 use Rattle.mg_base.specs.declared.memory.Memory.{Memory}
 use Rattle.mg_check_data.specs.DataRung.{HasOne}
-use Rattle.mg_check_tables.proofs.PlaceLemmas.{IsToldBelow, places_few}
+use Rattle.mg_check_tables.specs.FewPlaces.{IsToldBelow, places_few}
 use Rattle.mg_check_tables.proofs.PointerLemmas.{sequence_of}
 use Rattle.mg_check_tables.proofs.TableLemmas.{pages_more, pages_none}
 use Rattle.mg_check_inventory.specs.ImagePages.{lawful_link, link_checks, numbered}

@@ -1,6 +1,6 @@
 -- What is found of the data pages that a pointer page names, one entry after another.
-use Rattle.std.specs.Prelude.{◌≡◌, ◌↔◌, ◌⊎◌, ◌<◌, ◌≤◌, ◌+◌, ℕ, false, List}
-use Rattle.std.proofs.Common.{refl, sym, ap, ◌∙◌, inl, inr, arith, subst}
+use Rattle.std.specs.Prelude.{◌≡◌, ◌⊎◌, ◌<◌, ◌≤◌, ◌+◌, ℕ, false, List}
+use Rattle.std.proofs.Common.{sym, ap, ◌∙◌, inl, inr, arith, subst}
 use Rattle.std.proofs.lemmas.Bool.{cases_lt}
 use Rattle.mg_base.specs.Fields.{u32_at}
 use Rattle.mg_check_data.specs.DataRung.{HasOne, IsDataFinding}

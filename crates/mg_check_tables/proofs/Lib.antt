@@ -1,5 +1,5 @@
 pub mod ChainLemmas
 pub mod EntryLemmas
-pub mod PlaceLemmas
 pub mod PointerLemmas
+pub mod SeatLemmas
 pub mod TableLemmas

@@ -1,6 +1,6 @@
 -- One pointer page: what its tests tell, and what it is where they pass.
-use Rattle.std.specs.Prelude.{◌≡◌, ◌≢◌, ◌↔◌, ◌⊎◌, ◌<◌, ◌≤◌, ◌-◌, ◌==◌, ◌||◌, ◌^◌, ◌++◌, ℕ, zero, suc, true, List, Result, Ok, Err, OnOk, length, min}
-use Rattle.std.proofs.Common.{refl, sym, ap, ◌∙◌, inl, inr, arith, subst}
+use Rattle.std.specs.Prelude.{◌≡◌, ◌≢◌, ◌⊎◌, ◌<◌, ◌≤◌, ◌+◌, ◌*◌, ◌-◌, ◌==◌, ◌||◌, ◌^◌, ℕ, zero, suc, true, List, Result, Ok, Err, OnOk, length, min}
+use Rattle.std.proofs.Common.{refl, sym, ap, inl, inr, arith, subst}
 use Rattle.std.proofs.lemmas.Bool.{cases_lt, eqb-true, ne_eqb, or_cases}
 use Rattle.std.proofs.lemmas.List.{get_or_past}
 use Rattle.mg_base.specs.Checks.{PassesAll, common_checks, verdict}
@@ -14,14 +14,13 @@ use Rattle.mg_base.specs.declared.geometry.TheConstants.{GREATEST_LIMIT}
 use Rattle.mg_check_inventory.specs.ImagePages.{IsWholeImage, bit_checks, lawful_link, link_checks, numbered, presence_checks}
 use Rattle.mg_check_inventory.specs.TestLaws.{bit_is_set, none_where_passes, passes_parts, set_is_one}
 use Rattle.mg_check_tables.specs.TableRung.{IsPointerFinding, IsThereFinding, pointer_tests}
-use Rattle.mg_findings.specs.Findings.{HasNone, OfFirst, Tells}
+use Rattle.mg_findings.specs.Findings.{HasNone, Tells}
 use Rattle.mg_findings.specs.RungLaws.{none_of_rungs}
-use Rattle.mg_header.specs.HeaderPage.{page_checks}
 use Rattle.mg_image.specs.Form.{Pages}
 use Rattle.mg_image.specs.Inventory.{is_used}
 use Rattle.mg_image.specs.Sound.{IsTablePointer}
 use Rattle.mg_pointer.specs.declared.page.TheConstants.{POINTER_KIND}
-use Rattle.mg_pointer.specs.PointerPage.{IsPointerPage, capacity, count_in, pointer_checks, rest_checks}
+use Rattle.mg_pointer.specs.PointerPage.{IsPointerPage, count_in, pointer_checks, rest_checks}
 
 -- a page whose tests pass is as wanted
 pub wanted_passed : (size : ℕ) (pages : Pages) (n owner at : ℕ) (test : Result (Unit {0}) Damaged)
@@ -84,6 +83,15 @@ lawful_pointer size image owner at n b whole same is =
           most = omega (arith, long, both.1);
           count = omega (arith, few);
         }
+
+-- it has no more of them than fit a page
+pub few_entries : (b : List ℕ) → IsPointerPage b → count_in b ≤ 16378
+few_entries b page = omega (arith, page.count, page.most)
+
+-- so their places are numbers of 32 bits
+pub room_left : (place at many : ℕ) → place ≤ 16378 * at → at ≤ GREATEST_LIMIT → many ≤ 16378
+    → place + many < 2 ^ 32
+room_left place at many room few most = omega (arith, room, few, most)
 
 -- its sequence is its place in the chain
 sequence_part : (b : List ℕ) (n kind owner at : ℕ) → PassesAll (common_checks b n kind owner at)

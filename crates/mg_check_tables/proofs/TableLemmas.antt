@@ -1,6 +1,6 @@
 -- The pages of a table from a pointer page on: the first of them and the others.
-use Rattle.std.specs.Prelude.{◌≡◌, ◌≢◌, ◌⊎◌, ◌<◌, ◌≤◌, ◌+◌, ◌++◌, ℕ, zero, suc, false, List, [], ◌∷◌, length}
-use Rattle.std.proofs.Common.{refl, sym, ap, ◌∙◌, inl, inr, arith, subst, add-one, length-append}
+use Rattle.std.specs.Prelude.{◌≡◌, ◌≢◌, ◌<◌, ◌≤◌, ◌+◌, ◌++◌, ℕ, zero, suc, false, List, [], ◌∷◌, length}
+use Rattle.std.proofs.Common.{refl, sym, inl, inr, arith, subst, length-append}
 use Rattle.std.proofs.lemmas.Bool.{cases_lt}
 use Rattle.mg_base.specs.Checks.{PassesAll}
 use Rattle.mg_base.specs.Fields.{u32_at}
@@ -8,7 +8,7 @@ use Rattle.mg_base.specs.Image.{Image, page_at}
 use Rattle.mg_check_data.specs.DataRung.{DataLaw}
 use Rattle.mg_check_inventory.specs.ImagePages.{IsWholeImage}
 use Rattle.mg_check_tables.proofs.PointerLemmas.{pointer_none}
-use Rattle.mg_check_tables.specs.TableRung.{HasEntries, HasPagesFrom, HasTable, IsChainFinding, TableLaw, seat_of}
+use Rattle.mg_check_tables.specs.TableRung.{HasEntries, HasPagesFrom, IsChainFinding, TableLaw, seat_of}
 use Rattle.mg_check_tables.specs.TableRung.{of_page, of_entry, of_next}
 use Rattle.mg_findings.specs.declared.finding.Finding.{Finding}
 use Rattle.mg_header.specs.HeaderPage.{page_checks}

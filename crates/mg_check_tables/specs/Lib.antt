@@ -1,1 +1,3 @@
 pub mod TableRung
+pub mod FewPlaces
+pub mod Seats

@@ -1,5 +1,5 @@
 -- What is found in the pages of a table: its chain of pointer pages, and the data pages they name.
-use Rattle.std.specs.Prelude.{◌≡◌, ◌≢◌, ◌⊎◌, ◌↔◌, ◌<◌, ◌+◌, ℕ, false, List, ◌++◌, length}
+use Rattle.std.specs.Prelude.{◌≡◌, ◌≢◌, ◌⊎◌, ◌<◌, ◌+◌, ℕ, false, List, ◌++◌, length}
 use Rattle.mg_base.specs.Checks.{Check, PassesAll, verdict}
 use Rattle.mg_base.specs.Fields.{u32_at}
 use Rattle.mg_base.specs.Image.{Image, page_at}

@@ -34,7 +34,7 @@ pub(crate) fn count_of(page: &[u8]) -> u32
 }
 
 /// The data page that an entry names.
-fn seat_of(page: &[u8], seat: EntrySeat, i: u32) -> DataSeat
+pub(crate) fn seat_of(page: &[u8], seat: EntrySeat, i: u32) -> DataSeat
     requires lawful { IsPointerPage page.now }
     requires inside { i < count_in page.now }
     requires room { seat.place + count_in page.now < 2 ^ 32 }
