@@ -1,7 +1,6 @@
 -- Places and answers of sessions.
-use Rattle.std.proofs.Common.{◌≡◌, ◌<◌, ◌≤◌, ◌+◌, ◌⊎◌, inl, inr, ℕ, zero, suc, List, [], ◌∷◌, ◌++◌, get_or, length, map, replicate, set, refl, sym, ap, ◌∙◌, subst, arith}
-use Rattle.std.proofs.lemmas.Bool.{cases_eq}
-use Rattle.std.proofs.lemmas.List.{get_or-map, length-map, map-set}
+use Rattle.std.proofs.Common.{◌≡◌, ◌<◌, ℕ, zero, suc, List, [], ◌∷◌, ◌++◌, get_or, length, replicate, set, sym, ap, ◌∙◌, arith}
+use Rattle.std.proofs.lemmas.List.{get_or-map, map-set}
 use Rattle.std.specs.declared.vec.Vec.{Vec}
 use Rattle.std.specs.declared.alloc.Global.{Global}
 use Rattle.mg_interleavings.specs.declared.answered.Answered.{Answered}
@@ -34,3 +33,15 @@ same_lists [] s d v inside is = absurd (omega (arith, inside))
 same_lists (w ∷ vs) zero d v inside is = ap (λ (xs : List Answered). xs ∷ lists vs) is
 same_lists (w ∷ vs) (suc s) d v inside is =
     ap (λ (xss : List (List Answered)). w.items ∷ xss) (same_lists vs s d v (omega (arith, inside)) is)
+
+-- the same for a vector that was read at its place
+pub put_read : (vs : List (Vec Answered Global)) (s : ℕ) (d v : Vec Answered Global) (answer : Answered) → s < length vs
+    → d ≡ get_or vs s d → v.items ≡ d.items ++ answer ∷ []
+    → lists (set vs s v) ≡ set (lists vs) s (get_or (lists vs) s [] ++ answer ∷ [])
+put_read vs s d v answer inside read is =
+    put_lists vs s d v answer inside (is ∙ ap (λ (w : Vec Answered Global). w.items ++ answer ∷ []) read)
+
+pub same_read : (vs : List (Vec Answered Global)) (s : ℕ) (d v : Vec Answered Global) → s < length vs → d ≡ get_or vs s d
+    → v.items ≡ d.items → lists (set vs s v) ≡ lists vs
+same_read vs s d v inside read is =
+    same_lists vs s d v inside (is ∙ ap (λ (w : Vec Answered Global). w.items) read)

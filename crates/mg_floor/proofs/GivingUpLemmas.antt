@@ -26,8 +26,7 @@ use Rattle.mg_transcript.specs.Growing.{GrowsBy, by_one}
 use Rattle.mg_transcript.specs.Sessions.{Unfinished}
 use Rattle.mg_interleavings.specs.declared.answered.Answered.{Answered}
 use Rattle.mg_interleavings.specs.GivingUp.{ComesOut, GivesUpWaiting, timed_out}
-use Rattle.mg_interleavings.specs.GivingUpLaws.{comes_out}
-use Rattle.mg_interleavings.specs.Interleavings.{TimesOut}
+use Rattle.mg_interleavings.specs.Interleavings.{TimesOut, given_up, taken_back}
 use Rattle.mg_courses.specs.BesideLaws.{WorksStayAt, WorksStayReady}
 use Rattle.mg_courses.specs.CarryLaws.{carries_by}
 use Rattle.mg_courses.specs.Running.{RunMeans}
@@ -95,6 +94,20 @@ refused_so o h t refusal active lawful before = at (is_given_up refusal)
       grows = by_one (entry (events.UndoMark t) (answers.No refusal)) refl grown.as_it_was;
       legal = (lawful, before);
     }
+
+-- the keeper stands for the history in which the statement has timed out
+abbrev comes_out : {R P : Type 0} (m : Means R P) (old new : R) (t on : TxNo) (done : Result (Unit {0}) Refusal) (o : Opening)
+    (h : Entries) → Undoes m old new t done → m.stands old o h → ComesOut m new o h t on (timed_out on done)
+comes_out m old new t on (Ok x) o h undoes stands = record {
+  after = entry (events.UndoMark t) answers.Fine ∷ h;
+  out = taken_back (undoes o h stands).0;
+  stands = (undoes o h stands).1;
+}
+comes_out m old new t on (Err refusal) o h gives stands = record {
+  after = after_refusal o h t (events.UndoMark t) refusal;
+  out = given_up refusal (gives o h stands).0;
+  stands = (gives o h stands).1;
+}
 
 out_so : {R P : Type 0} (m : Means R P) (old new : R) (o : Opening) (h : Entries) (t on : TxNo)
     (done : Result (Unit {0}) Refusal) (undoes : Undoes m old new t done) (stands : m.stands old o h)

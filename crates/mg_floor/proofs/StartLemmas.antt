@@ -21,7 +21,7 @@ use Rattle.mg_floor.specs.Boards.{IsAtStart, IsBoard, standing_of}
 use Rattle.mg_floor.specs.Coming.{IsStage, Stands}
 use Rattle.mg_floor.specs.Scripts.{AreOwnLines}
 
-all_none : (n k : ℕ) → get_or (replicate n None) k None ≡ None
+all_none : (n k : ℕ) → ◌≡◌ {A = Option Transaction} (get_or (replicate n None) k None) None
 all_none zero k = refl
 all_none (suc n) zero = refl
 all_none (suc n) (suc k) = all_none n k

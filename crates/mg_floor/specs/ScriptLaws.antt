@@ -24,15 +24,16 @@ taken_own s kind line x is kind_is = absurd cc
 own_all : (s : ℕ) (lines : List Line) (place : ℕ) (x : Line) → slice_get (own_of s lines) place ≡ Some x
     → IsOwnLine s x.kind
 own_all s [] place x is = absurd cc
-own_all s (line ∷ lines) place x is = at (own_line s line) refl place is
+own_all s (line ∷ lines) place x is = at (own_line s line) refl (λ k later. own_all s lines k x later) place is
   where
-    at : (o : Option Line) → own_line s line ≡ o → (place : ℕ) → slice_get (before o (own_of s lines)) place ≡ Some x
-        → IsOwnLine s x.kind
-    at None none place is = own_all s lines place x is
-    at (Some first) taken zero is =
+    at : (o : Option Line) → own_line s line ≡ o
+        → ((k : ℕ) → slice_get (own_of s lines) k ≡ Some x → IsOwnLine s x.kind) → (place : ℕ)
+        → slice_get (before o (own_of s lines)) place ≡ Some x → IsOwnLine s x.kind
+    at None none rest place is = rest place is
+    at (Some first) taken rest zero is =
         let same : first ≡ x = cc is in
         subst (λ (l : Line). IsOwnLine s l.kind) same (taken_own s line.kind line first taken refl)
-    at (Some first) taken (suc place) is = own_all s lines place x is
+    at (Some first) taken rest (suc place) is = rest place is
 
 cut_own : (n from : ℕ) (lines : List Line) (s place : ℕ) (x : Line)
     → slice_get (script_of (cut_from n from lines) s) place ≡ Some x → IsOwnLine (from + s) x.kind
@@ -49,7 +50,11 @@ cut_own (suc n) from lines (suc s) place x is =
     next a b = omega arith
 
 pub cut_are_own : (n : ℕ) (lines : List Line) → AreOwnLines (cut_from n 0 lines)
-cut_are_own n lines s place x is = cut_own n 0 lines s place x is
+cut_are_own n lines s place x is =
+    subst (λ (k : ℕ). IsOwnLine k x.kind) (none s) (cut_own n 0 lines s place x is)
+  where
+    none : (a : ℕ) → 0 + a ≡ a
+    none a = omega arith
 
 pub length_cut : (n from : ℕ) (lines : List Line) → length (cut_from n from lines) ≡ n
 length_cut zero from lines = refl

@@ -83,7 +83,7 @@ pub flows_behind : (answer : Answered) → stop_behind answer ≡ None → stops
 flows_behind (LockTimeout on) is = refl
 flows_behind (Replied reply) is = flow_goes reply (flows_by (flow reply) is)
 
-pub halted_by : Bool → Answered → Bool
+abbrev pub halted_by : Bool → Answered → Bool
 halted_by true answer = false
 halted_by false answer = stops_at answer
 

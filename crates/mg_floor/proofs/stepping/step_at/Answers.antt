@@ -10,11 +10,12 @@ use Rattle.mg_sessions.specs.StatementLaws.{comes_as, ready_as}
 use Rattle.mg_floor.proofs.SteppingLemmas.{kept_step, stepped_ready}
 use Rattle.mg_floor.proofs.stepping.step_at.Goals as goal
 
-pub step-stepped-requires-clause-ready : goal.step-stepped-requires-clause-ready
-step-stepped-requires-clause-ready g c =
-    (taken_can g.R.Records.meaning g.R.Statements.runs c.args.r.now c.args.sessions.now.transactions
-    c.args.sessions.now.pending.items c.args.place c.take_out-going.result c.requires.inside
-    c.take_out-going.ensures.taken c.requires.ready).ready
+pub step-stepped-requires : goal.step-stepped-requires
+step-stepped-requires g c = record {
+  ready = (taken_can g.R.Records.meaning g.R.Statements.runs c.args.r.now c.args.sessions.now.transactions
+      c.args.sessions.now.pending.items c.args.place c.take_out-going.result c.requires.inside
+      c.take_out-going.ensures.taken c.requires.ready).ready;
+}
 
 pub keep-requires-clause-lettered : goal.keep-requires-clause-lettered
 keep-requires-clause-lettered g c =

@@ -12,11 +12,12 @@ use Rattle.mg_floor.specs.Trying.{TriesOnce}
 use Rattle.mg_floor.proofs.SteppingLemmas.{given_up_account, stepped_ready, tried_given_up, tried_kept, waits_ready}
 use Rattle.mg_floor.proofs.stepping.try_once.Goals as goal
 
-pub step-stepped-requires-clause-ready : goal.step-stepped-requires-clause-ready
-step-stepped-requires-clause-ready g c =
-    (taken_can g.R.Records.meaning g.R.Statements.runs c.args.r.now c.args.sessions.now.transactions
-    c.args.sessions.now.pending.items c.args.place c.take_out-trying.result c.requires.inside
-    c.take_out-trying.ensures.taken c.requires.ready).ready
+pub step-stepped-requires : goal.step-stepped-requires
+step-stepped-requires g c = record {
+  ready = (taken_can g.R.Records.meaning g.R.Statements.runs c.args.r.now c.args.sessions.now.transactions
+      c.args.sessions.now.pending.items c.args.place c.take_out-trying.result c.requires.inside
+      c.take_out-trying.ensures.taken c.requires.ready).ready;
+}
 
 pub keep-requires-clause-lettered : goal.keep-requires-clause-lettered
 keep-requires-clause-lettered g c =

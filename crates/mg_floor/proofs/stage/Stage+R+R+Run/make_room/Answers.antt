@@ -1,4 +1,4 @@
-use Rattle.std.proofs.Common.{◌<◌, List, length, ◌∙◌, subst, sym}
+use Rattle.std.proofs.Common.{◌<◌, length, ◌∙◌, subst, sym}
 use Rattle.mg_interleavings.specs.Standings.{Scripts}
 use Rattle.mg_floor.specs.ComingLaws.{board_stays, comes_on, stage_stays, with_board}
 use Rattle.mg_floor.proofs.stage.Stage+R+R+Run.make_room.Goals as goal
