@@ -165,6 +165,7 @@ module _ (form : Form) (begins : OpeningsBegin) (lay : InsertionsLay form) (keep
   }
 
   pub entry_stays : HasEntered m form size o h s before after i j asked session shows.layout shows.reading root e
+  unfolding shows_now stays
   entry_stays = record {
     shows = shows_now;
     stays = stays;
