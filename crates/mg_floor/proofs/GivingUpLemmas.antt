@@ -1,5 +1,5 @@
 -- What becomes of the others where a statement is given up.
-use Rattle.std.proofs.Common.{◌≡◌, ◌==◌, ◌&&◌, inl, ℕ, true, Bool, false, List, [], ◌∷◌, Option, Some, None, Result, Ok, Err, cond, not, refl, sym, ap, ◌∙◌, subst, if◌then◌else◌}
+use Rattle.std.proofs.Common.{◌≡◌, ◌==◌, ◌&&◌, inl, ℕ, true, Bool, false, List, ◌∷◌, Option, Some, None, Result, Ok, Err, cond, not, refl, sym, ap, ◌∙◌, subst, if◌then◌else◌}
 use Rattle.std.proofs.lemmas.Bool.{eq-eqb}
 use Rattle.mg_base.specs.declared.numbers.TxNo.{TxNo}
 use Rattle.mg_base.specs.declared.transaction.TxState.{TxState}

@@ -1,5 +1,5 @@
 -- Lines are gone through one by one, and sessions.
-use Rattle.std.proofs.Common.{◌≡◌, ◌<◌, ◌≤◌, ◌+◌, ◌-◌, append_assoc, ℕ, zero, suc, List, [], ◌∷◌, ◌++◌, Option, Some, None, refl, sym, ap, ◌∙◌, subst, arith}
+use Rattle.std.proofs.Common.{◌≡◌, ◌<◌, ◌≤◌, ◌+◌, ◌-◌, append_assoc, ℕ, suc, List, [], ◌∷◌, ◌++◌, Option, Some, None, refl, sym, ap, ◌∙◌, arith}
 use Rattle.mg_script.specs.declared.line.Line.{Line}
 use Rattle.mg_floor.specs.Scripts.{before, cut_from, own_line, own_of}
 

@@ -1,5 +1,5 @@
 -- A step over the keeper and the sessions that is noted on the board.
-use Rattle.std.proofs.Common.{◌≡◌, ◌<◌, ◌≤◌, ◌+◌, ◌==◌, ◌||◌, ℕ, suc, true, Bool, false, List, [], ◌∷◌, ◌++◌, Option, Some, None, get_or, length, set, not, refl, sym, ap, ◌∙◌, subst, arith, if◌then◌else◌}
+use Rattle.std.proofs.Common.{◌≡◌, ◌<◌, ◌≤◌, ◌+◌, ◌||◌, ℕ, suc, true, Bool, false, List, [], ◌∷◌, ◌++◌, Option, Some, None, get_or, length, set, not, refl, sym, ap, ◌∙◌, subst, arith, if◌then◌else◌}
 use Rattle.std.specs.List.{slice_get}
 use Rattle.std.proofs.lemmas.Bool.{eqb-true}
 use Rattle.std.proofs.lemmas.Option.{slice_get_within}
@@ -46,7 +46,7 @@ use Rattle.mg_floor.specs.declared.board.Board.{Board}
 use Rattle.mg_floor.specs.declared.stage.Stage.{Stage}
 use Rattle.mg_floor.specs.Answering.{refusal_told_by, stop_behind, stopped_by}
 use Rattle.mg_floor.specs.Boards.{IsBoard, Passes, Settles, standing_of}
-use Rattle.mg_floor.specs.Coming.{Comes, IsAccounted, IsStage, Stands}
+use Rattle.mg_floor.specs.Coming.{Comes, IsAccounted, IsStage}
 use Rattle.mg_floor.specs.ComingLaws.{with_board}
 use Rattle.mg_floor.specs.Scripts.{AreOwnLines, IsOwnLine}
 use Rattle.mg_floor.specs.SteppingLaws.{flows_behind, goes_on_settle, halted_by, has_line, settled, settled_by, steps_settle, takes_up_settles, tries_settle}

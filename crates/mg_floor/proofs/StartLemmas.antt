@@ -1,9 +1,8 @@
 -- The stage before any step.
-use Rattle.std.proofs.Common.{◌≡◌, ◌≤◌, ℕ, zero, suc, true, false, List, [], Option, Some, None, length, replicate, refl, sym, ap, ◌∙◌, subst}
+use Rattle.std.proofs.Common.{◌≡◌, ◌≤◌, ℕ, zero, suc, true, false, List, [], Option, None, length, replicate, refl, sym, ap, subst}
 use Rattle.std.specs.Prelude.{get_or}
 use Rattle.mg_model.specs.declared.opening.Opening.{Opening}
 use Rattle.mg_model.specs.Answers.{is_active}
-use Rattle.mg_model.specs.History.{Entries}
 use Rattle.mg_model.specs.Machine.{state_of}
 use Rattle.mg_records.specs.Meaning.{Means}
 use Rattle.mg_script.specs.declared.line.TheConstants.{SESSIONS}

@@ -1,11 +1,9 @@
 -- A statement is taken out, takes a step, and is kept, or is given up.
-use Rattle.std.proofs.Common.{◌≡◌, ◌<◌, ◌==◌, ℕ, true, Bool, false, List, [], ◌∷◌, ◌++◌, Option, Some, None, Result, Ok, Err, get_or, length, not, refl, sym, ap, ◌∙◌, subst}
+use Rattle.std.proofs.Common.{◌≡◌, ◌<◌, ◌==◌, ℕ, true, false, List, ◌++◌, Option, None, get_or, length, refl, sym, ap, ◌∙◌, subst}
 use Rattle.std.specs.List.{remove}
 use Rattle.mg_base.specs.declared.numbers.TxNo.{TxNo}
 use Rattle.mg_base.specs.declared.transaction.TxState.TheVariants.{Active}
 use Rattle.mg_model.specs.declared.opening.Opening.{Opening}
-use Rattle.mg_model.specs.declared.refusal.Refusal.{Refusal}
-use Rattle.mg_model.specs.Answers.{is_active}
 use Rattle.mg_model.specs.History.{Entries}
 use Rattle.mg_model.specs.Legal.{IsLegal}
 use Rattle.mg_model.specs.Machine.{state_of}
@@ -13,14 +11,13 @@ use Rattle.mg_faults.specs.Faults.{tells_fault}
 use Rattle.mg_records.specs.Crashing.{HoldsOn}
 use Rattle.mg_records.specs.Meaning.{Means}
 use Rattle.mg_records.specs.Sessions.{SessionsAreOne, SessionsStay}
-use Rattle.mg_script.specs.declared.line.TheConstants.{SESSIONS}
 use Rattle.mg_script.specs.declared.reply.Reply.{Reply}
 use Rattle.mg_calls.specs.Frames.{Frames}
 use Rattle.mg_transcript.specs.Courses.{Comes, Course, Later, Parks, Ends, reply_of}
 use Rattle.mg_transcript.specs.Growing.{GrowsBy}
 use Rattle.mg_transcript.specs.LegalLaws.{takes_legal}
 use Rattle.mg_transcript.specs.OwnEventLaws.{takes_own}
-use Rattle.mg_transcript.specs.Sessions.{Unfinished, kept}
+use Rattle.mg_transcript.specs.Sessions.{Unfinished}
 use Rattle.mg_transcript.specs.Steps.{Steps, step_more}
 use Rattle.mg_interleavings.specs.declared.answered.Answered.{Answered}
 use Rattle.mg_interleavings.specs.declared.answered.Answered.TheVariants.{Replied}
@@ -32,14 +29,13 @@ use Rattle.mg_courses.specs.declared.work.Work.{Work}
 use Rattle.mg_courses.specs.BesideLaws.{WorksStayAt, WorksStayReady}
 use Rattle.mg_courses.specs.CarryLaws.{carries_then}
 use Rattle.mg_courses.specs.Running.{RunMeans, over_in, refusal_told}
-use Rattle.mg_courses.specs.Working.{IsWorkAt, IsWorkReady, IsWorkReadyIf, IsWorkTold, WorkDone}
+use Rattle.mg_courses.specs.Working.{IsWorkAt, IsWorkReadyIf, IsWorkTold, WorkDone}
 use Rattle.mg_pending.specs.declared.pending.Pending.{Pending}
 use Rattle.mg_pending.specs.declared.transactions.Transaction.{Transaction}
 use Rattle.mg_pending.specs.AgreeLaws.{SplitAt}
 use Rattle.mg_pending.specs.Standing.{AreReady, CanGoOn, StandAt}
 use Rattle.mg_pending.specs.StandingLaws.{live_is_active}
 use Rattle.mg_pending.specs.Statements.{has_statement, pending_after, reply_of_step, transactions_after}
-use Rattle.mg_pending.specs.Transactions.{number_at}
 use Rattle.mg_sessions.specs.AccountLaws.{account_of, account_then}
 use Rattle.mg_sessions.specs.Accounts.{Accounts}
 use Rattle.mg_sessions.specs.Coming.{ComesTo, IsKept}

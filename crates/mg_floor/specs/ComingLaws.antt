@@ -1,5 +1,5 @@
 -- No step, one behind another, and what leaves the history as it is.
-use Rattle.std.proofs.Common.{◌≡◌, ◌≤◌, length, ℕ, true, Bool, false, List, Option, Some, None, Result, Ok, Err, refl, sym, ap, ◌∙◌, subst}
+use Rattle.std.proofs.Common.{◌≡◌, ◌≤◌, length, ℕ, Bool, false, List, Option, Some, None, refl, sym, ap, ◌∙◌, subst}
 use Rattle.mg_model.specs.declared.opening.Opening.{Opening}
 use Rattle.mg_model.specs.declared.refusal.Refusal.{Refusal}
 use Rattle.mg_model.specs.declared.refusal.Refusal.TheVariants as refusals
@@ -8,7 +8,6 @@ use Rattle.mg_records.specs.Crashing.{CrashesHold, HoldsOn, LeavesQuietly}
 use Rattle.mg_records.specs.Keeping.{FaultsAreTold, MeetsNoDamage, Reads}
 use Rattle.mg_records.specs.Meaning.{Means}
 use Rattle.mg_records.specs.Sessions.{SessionsStay}
-use Rattle.mg_script.specs.declared.line.Line.{Line}
 use Rattle.mg_script.specs.declared.line.TheConstants.{SESSIONS}
 use Rattle.mg_transcript.specs.Sessions.{Unfinished}
 use Rattle.mg_interleavings.specs.declared.answered.Answered.{Answered}
@@ -21,7 +20,6 @@ use Rattle.mg_courses.specs.Carrying.{Carries}
 use Rattle.mg_courses.specs.CarryLaws.{carries_none, carries_read, carries_then}
 use Rattle.mg_courses.specs.Running.{RunMeans}
 use Rattle.mg_pending.specs.BeginLaws.{alone_at_all, stays_ready, stays_stand}
-use Rattle.mg_pending.specs.Standing.{AreReady}
 use Rattle.mg_sessions.specs.AccountLaws.{account_after, account_of, no_account}
 use Rattle.mg_sessions.specs.Accounts.{Accounts}
 use Rattle.mg_floor.specs.declared.board.Board.{Board}

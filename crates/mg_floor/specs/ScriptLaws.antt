@@ -1,11 +1,11 @@
 -- Scripts that are cut by sessions have lines of their sessions alone.
-use Rattle.std.proofs.Common.{◌≡◌, ◌==◌, ◌+◌, ◌-◌, ◌≤◌, ◌<◌, ℕ, zero, suc, true, false, Bool, List, [], ◌∷◌, ◌++◌, Option, Some, None, get_or, length, refl, sym, ap, ◌∙◌, subst, arith, if◌then◌else◌}
+use Rattle.std.proofs.Common.{◌≡◌, ◌==◌, ◌+◌, ℕ, zero, suc, true, false, Bool, List, [], ◌∷◌, Option, Some, None, length, refl, sym, ap, subst, arith, if◌then◌else◌}
 use Rattle.std.specs.List.{slice_get}
 use Rattle.std.proofs.lemmas.Bool.{eqb-true}
 use Rattle.mg_script.specs.declared.line.Line.{Line}
 use Rattle.mg_script.specs.declared.line.LineKind.{LineKind}
 use Rattle.mg_script.specs.declared.line.LineKind.TheVariants as kinds
-use Rattle.mg_interleavings.specs.Standings.{Scripts, script_of}
+use Rattle.mg_interleavings.specs.Standings.{script_of}
 use Rattle.mg_floor.specs.Scripts.{AreOwnLines, IsOwnLine, before, cut_from, own_by, own_line, own_of}
 
 -- a line that is taken is one of the session

@@ -1,22 +1,20 @@
 -- A step of a session, once it is noted on the board, is one that sessions make that obey their scripts at once.
-use Rattle.std.proofs.Common.{◌≡◌, ◌==◌, ◌||◌, ◌<◌, ◌≤◌, ◌+◌, ℕ, suc, true, Bool, false, List, [], ◌∷◌, ◌++◌, Option, Some, None, get_or, length, set, not, refl, sym, ap, ◌∙◌, subst, arith, if◌then◌else◌}
+use Rattle.std.proofs.Common.{◌≡◌, ◌==◌, ◌||◌, ◌<◌, ℕ, true, Bool, false, List, [], ◌∷◌, ◌++◌, Option, Some, None, length, refl, sym, ap, ◌∙◌, subst}
 use Rattle.std.proofs.lemmas.Bool.{eq-eqb}
 use Rattle.std.proofs.lemmas.List.Folds.{list_any-append}
 use Rattle.std.proofs.lemmas.Option.{slice_get_within}
 use Rattle.mg_base.specs.declared.numbers.TxNo.{TxNo}
 use Rattle.mg_model.specs.declared.opening.Opening.{Opening}
-use Rattle.mg_model.specs.declared.refusal.Refusal.{Refusal}
 use Rattle.mg_model.specs.Answers.{is_active}
 use Rattle.mg_model.specs.History.{Entries}
 use Rattle.mg_model.specs.Machine.{state_of}
-use Rattle.mg_records.specs.Meaning.{Means}
 use Rattle.mg_script.specs.declared.line.LineKind.TheVariants as kinds
 use Rattle.mg_script.specs.declared.line.Session.{Session}
 use Rattle.mg_script.specs.declared.reply.Reply.{Reply}
 use Rattle.mg_transcript.specs.declared.turn.Flow.{Flow}
 use Rattle.mg_transcript.specs.declared.turn.Flow.TheVariants.{GoesOn, Stops}
 use Rattle.mg_transcript.specs.Courses.{Course, Comes, Later, Parks, Ends, reply_of}
-use Rattle.mg_transcript.specs.Lines.{Declines, no_statement, stops}
+use Rattle.mg_transcript.specs.Lines.{no_statement}
 use Rattle.mg_transcript.specs.Sessions.{StandsAmong, Unfinished, is_busy, is_of_session, is_over, kept, unfinished}
 use Rattle.mg_transcript.specs.Steps.{Steps}
 use Rattle.mg_transcript.specs.Transcript.{flow}

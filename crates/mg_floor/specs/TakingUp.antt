@@ -1,5 +1,5 @@
 -- What becomes of a line that a session takes up.
-use Rattle.std.specs.Prelude.{◌≡◌, ℕ, Bool, List, ◌∷◌, Some, None, false}
+use Rattle.std.specs.Prelude.{◌≡◌, ℕ, Bool, List, ◌∷◌, None, false}
 use Rattle.mg_base.specs.declared.numbers.TxNo.{TxNo}
 use Rattle.mg_model.specs.declared.answer.Answer.{Answer}
 use Rattle.mg_model.specs.declared.event.Event.TheVariants as events

@@ -14,7 +14,7 @@ use Rattle.mg_script.specs.declared.reply.Reply.{Reply}
 use Rattle.mg_script.specs.declared.reply.Reply.TheVariants as replies
 use Rattle.mg_sql.specs.Answers.{Parses}
 use Rattle.mg_sql.specs.Laws.{TextsAreOneStatement}
-use Rattle.mg_statements.specs.Plain.{Plain, SetTransaction}
+use Rattle.mg_statements.specs.Plain.{Plain}
 use Rattle.mg_transcript.specs.Lines.{Does, begins, tends_pages}
 use Rattle.mg_transcript.specs.Lines as lines
 use Rattle.mg_transcript.specs.Sessions.{Unfinished}

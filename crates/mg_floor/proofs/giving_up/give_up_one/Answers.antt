@@ -1,4 +1,4 @@
-use Rattle.std.proofs.Common.{List, Option, Bool, ap, ◌∙◌, ◌≡◌, refl}
+use Rattle.std.proofs.Common.{List, Bool, ap, ◌∙◌, ◌≡◌, refl}
 use Rattle.mg_model.specs.History.{Entries}
 use Rattle.mg_script.specs.declared.reply.Reply.{Reply}
 use Rattle.mg_script.specs.declared.reply.Reply.TheVariants.{Held}

@@ -1,7 +1,7 @@
 use Rattle.std.proofs.Common.{ap, refl, subst}
 use Rattle.mg_script.specs.declared.reply.Reply.TheVariants.{No}
 use Rattle.mg_sql.specs.Answers.{Parses}
-use Rattle.mg_statements.specs.Plain.{Plain, SetTransaction, plain_of}
+use Rattle.mg_statements.specs.Plain.{Plain, plain_of}
 use Rattle.mg_sessions.specs.StatementLaws.{declined, stays_so}
 use Rattle.mg_floor.specs.TakingUp.{TakesUp, declines}
 use Rattle.mg_floor.specs.TakingUpLaws.{begins_taken, holds_taken}
