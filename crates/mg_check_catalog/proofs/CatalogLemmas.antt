@@ -32,10 +32,13 @@ first_absent size image past =
     ∙ blank_number size CATALOG_AT)
 
 -- what was added to nothing is the list
-pub list_added : (P : Finding → Type 0) (fs gs : List Finding) → Adds [] fs P
+pub list_added : (P : Finding → Type 0) (none fs gs : List Finding) → none ≡ [] → Adds none fs P
     → IsListOf (Has fs) gs → IsListOf P gs
-list_added P fs gs adds list = list_as P fs gs list (λ f. (
-  λ has. elim ((adds f).0 has) [ inl none ↦ absurd none | inr is ↦ is ],
+list_added P none fs gs empty adds list = list_as P fs gs list (λ f. (
+  λ has. elim ((adds f).0 has) [
+    | inl before ↦ absurd (subst (λ (l : List Finding). Has l f) empty before)
+    | inr is ↦ is
+  ],
   λ is. (adds f).1 (inr is),
 ))
 
@@ -83,7 +86,7 @@ module _ (size : ℕ) (image : Image) where
   none_of_parts : FrontLaw → TableLaw → IsWholeImage size image
       → HasRungs size (page_at size image) → HasNone Front × HasNone Catalog
   none_of_parts front table whole has = (
-    (front size image whole).1 (has.header, (has.inventory, has.transactions)),
+    (front size image whole).1 (has.header, has.inventory, has.transactions),
     table size image whole has.header.fields 0 (first_of (page_at size image)) has.catalog,
   )
 

@@ -1,9 +1,9 @@
 -- One bit after another is cleared.
-use Rattle.std.specs.Prelude.{◌≡◌, ◌≢◌, ◌<◌, ◌≤◌, ◌⊎◌, ◌+◌, ◌*◌, ◌/◌, ◌%◌, ◌==◌, ◌||◌, ℕ, zero, suc, Bool, true, false, List, [], ◌∷◌, length, take, slice_set, if◌then◌else◌}
+use Rattle.std.specs.Prelude.{◌≡◌, ◌≢◌, ◌<◌, ◌≤◌, ◌⊎◌, ◌+◌, ◌*◌, ◌/◌, ◌%◌, ◌==◌, ◌||◌, ℕ, zero, suc, Bool, true, false, List, [], ◌∷◌, get_or, length, take, slice_set, if◌then◌else◌}
 use Rattle.std.proofs.Common.{refl, sym, ap, ◌∙◌, inl, inr, arith, subst}
 use Rattle.std.proofs.Math.Nat.{mod-add-div'}
 use Rattle.std.proofs.lemmas.Bool.{cases_eq, cases_lt, eq-eqb, eqb-true, ne_eqb, or_cases, or_left, or_right}
-use Rattle.std.proofs.lemmas.List.{get_or-set_other, get_or-set_same, get_or_past, length-set}
+use Rattle.std.proofs.lemmas.List.{get_or-set_other, get_or-set_same, get_or_default, get_or_past, length-set}
 use Rattle.mg_base.specs.Image.{Image, blank, page_at}
 use Rattle.mg_base.specs.Fields.{byte}
 use Rattle.mg_base.specs.declared.geometry.TheConstants.{GREATEST_LIMIT}
@@ -93,6 +93,23 @@ module _ (size : ℕ) (old new : Image) (n : ℕ) (page : List ℕ)
     front = front;
     used = used;
   }
+
+-- the same, where the page that is changed was read by its index
+pub released_at : (size : ℕ) (old : Image) (n at many : ℕ) (page other : List ℕ)
+    → at ≡ bit_page size n → many ≡ bits size → bit_page size n < length old
+    → SetsUsed (get_or old at other) page (n % many) false
+    → Releases size old (slice_set old at page) (λ m. m == n)
+released_at size old n at many page other is count there sets =
+    subst (λ (k : ℕ). Releases size old (slice_set old k page) (λ m. m == n)) (sym is)
+    (released size old (slice_set old (bit_page size n) page) n page there refl here)
+  where
+    moved : SetsUsed (get_or old (bit_page size n) other) page (n % bits size) false
+    moved = subst (λ (k : ℕ). SetsUsed (get_or old k other) page (n % bits size) false) is
+        (subst (λ (b : ℕ). SetsUsed (get_or old at other) page (n % b) false) count sets)
+
+    here : SetsUsed (page_at size old (bit_page size n)) page (n % bits size) false
+    here = subst (λ (p : List ℕ). SetsUsed p page (n % bits size) false)
+        (get_or_default old (bit_page size n) other (blank size) there) moved
 
 -- the page inventory page of a page within the limit is a page of an image
 pub bit_within : (size : ℕ) (image : Image) (n : ℕ) → IsWholeImage size image
@@ -220,12 +237,14 @@ ends size old now found is = is.completes now (releases_none size now)
 of_finding : (found : List Finding) (n : ℕ) → is_page_of found n ≡ true
     → (f : Finding) × Has found f × (n ≡ f.page.0)
 of_finding [] n is = absurd cc
-of_finding (f ∷ fs) n is = at (or_cases (n == f.page.0) (is_page_of fs n) is)
+of_finding (f ∷ fs) n is =
+    at (or_cases (n == f.page.0) (is_page_of fs n) is) (λ later. of_finding fs n later)
   where
     at : ((n == f.page.0) ≡ true) ⊎ (is_page_of fs n ≡ true)
+        → (is_page_of fs n ≡ true → (g : Finding) × Has fs g × (n ≡ g.page.0))
         → (g : Finding) × Has (f ∷ fs) g × (n ≡ g.page.0)
-    at (inl same) = (f, inl refl, eqb-true n f.page.0 same)
-    at (inr later) = let more = of_finding fs n later in (more.0, inr more.1, more.2)
+    at (inl same) more = (f, inl refl, eqb-true n f.page.0 same)
+    at (inr later) more = let it = more later in (it.0, inr it.1, it.2)
 
 has_page : (found : List Finding) (f : Finding) → Has found f → is_page_of found f.page.0 ≡ true
 has_page [] f has = absurd has

@@ -2,11 +2,11 @@
 //!
 //! Owns: that a sound image stays sound, by the same layout and the same records, and that opening it
 //! gives what it gave, whichever pages that are marked as used and that nothing reaches were
-//! released. So each image that a crash leaves between the writes of page inventory pages, with the
-//! bits of some of them cleared, is sound and holds the same.
+//! released; and so of each image that a crash leaves between the writes of page inventory pages,
+//! whichever of them have reached the disk.
 //!
 //! Invariant: none, it keeps no state.
-//! Below: `mg_release`, for what is released; `mg_image`, for what a sound image is;
+//! Below: `mg_release` and `mg_orphans`, for what is released; `mg_image`, for what a sound image is;
 //! `mg_image_overlays`, for the kinds of linked pages. Above: nobody yet; the command that writes the
 //! pages.
 //! Not here: which pages are reached, and the deed.
@@ -14,4 +14,6 @@
 
 mod laws;
 
-pub use laws::{opened_images_stay, sound_images_stay};
+pub use laws::{
+    opened_images_are_left, opened_images_stay, sound_images_are_left, sound_images_stay,
+};
