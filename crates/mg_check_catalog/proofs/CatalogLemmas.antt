@@ -10,7 +10,7 @@ use Rattle.mg_check_front.specs.Front.{FrontLaw, IsFirstFinding}
 use Rattle.mg_check_inventory.specs.ImagePages.{IsWholeImage}
 use Rattle.mg_check_tables.specs.TableRung.{HasTable, TableLaw}
 use Rattle.mg_findings.specs.declared.finding.Finding.{Finding}
-use Rattle.mg_findings.specs.Findings.{Adds, Has, HasNone, IsListOf, OfFirst}
+use Rattle.mg_findings.specs.Findings.{Adds, Has, HasNone, IsListOf}
 use Rattle.mg_findings.specs.RungLaws.{empty_is_none, list_as, list_of_next, list_of_rung, none_of_rungs}
 use Rattle.mg_header.specs.declared.header.TheConstants.{CATALOG_AT}
 

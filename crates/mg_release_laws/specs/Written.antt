@@ -2,7 +2,6 @@
 -- opening it gives what it gave.
 use Rattle.std.specs.Prelude.{◌≡◌, ◌≢◌, ◌<◌, ◌/◌, ◌%◌, ◌&&◌, ℕ, Bool, true, false, List, length, take, get_or, if◌then◌else◌}
 use Rattle.std.proofs.Common.{refl, sym, ap, ◌∙◌, subst}
-use Rattle.std.proofs.lemmas.Bool.{and_cases}
 use Rattle.mg_base.specs.Image.{Image, page_at}
 use Rattle.mg_base.specs.declared.geometry.TheConstants.{GREATEST_LIMIT}
 use Rattle.mg_findings.specs.declared.finding.Finding.{Finding}
@@ -128,13 +127,17 @@ module _ (size : ℕ) (old new left : Image) (gone written : ℕ → Bool)
 
 -- ---- these pages may go
 
+both_true : (a b : Bool) → (a && b) ≡ true → (a ≡ true) × (b ≡ true)
+both_true true b is = (refl, is)
+both_true false b is = absurd cc
+
 orphan_goes : OrphanLaw → (size : ℕ) (old : Image) (layout : Layout) (reached : List Bool)
     (found : List Finding) → Covers size (page_at size old) layout reached
     → IsListOf (IsOrphanFinding size (page_at size old) reached) found
     → (written : ℕ → Bool)
     → MayGo size (page_at size old) layout (λ m. is_page_of found m && written (bit_page size m))
 orphan_goes law size old layout reached found covers list written n goes =
-    let both = and_cases (is_page_of found n) (written (bit_page size n)) goes in
+    let both = both_true (is_page_of found n) (written (bit_page size n)) goes in
     let orphan = (law size old reached found list n).0 both.0 in
     (orphan.0, orphan.1.0, λ here. absurd (let never = sym (covers n here) ∙ orphan.1.1 in cc))
 

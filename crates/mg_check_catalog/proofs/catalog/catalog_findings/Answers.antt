@@ -1,4 +1,4 @@
-use Rattle.std.proofs.Common.{◌⊎◌, length, refl, ℕ}
+use Rattle.std.proofs.Common.{◌⊎◌, length, refl}
 use Rattle.mg_base.specs.Image.{page_at}
 use Rattle.mg_check_catalog.proofs.CatalogLemmas.{list_added, named_is}
 use Rattle.mg_check_catalog.specs.CatalogRung.{IsCatalogFinding}
