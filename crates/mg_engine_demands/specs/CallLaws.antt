@@ -33,6 +33,7 @@ use Rattle.mg_pool.specs.Dirty.{DirtyPages, content_of, is_dirty, is_marked}
 use Rattle.mg_pool.specs.Pool.{cache_of, shown}
 use Rattle.mg_pool.specs.declared.pool.Pool.{Pool}
 use Rattle.mg_records.specs.declared.write.Write.{Write}
+use Rattle.mg_row_writes.specs.BareLaws.{bare_lays}
 use Rattle.mg_space.specs.declared.links.FireLinks.{FireLinks}
 use Rattle.mg_txlist.specs.TxList.{next_said, said}
 use Rattle.mg_txlist.specs.declared.list.TxList.{TxList}
@@ -333,12 +334,13 @@ module _ {D : Type 0} (m : Meaning D) (old new : Core D) (t : TxNo) (table : Tab
   }
 
 pub rows_go : (D : Type 0) (m : Meaning D) → LaysGo D m → RowsGo D m
-rows_go D m law old new t table write key rec i j layout later puts told held knows =
+rows_go D m law old new t table write key rec i j layout later puts bare told held knows =
     goes (moment_of old i layout) (moment_of puts.read i layout) (moment_of new j later)
     (reads_go D m old puts.read i layout puts.has.reads.keeps
     (ap (λ (c : Core D). c.list) puts.has.reads.same) (ap (λ (c : Core D). c.works) puts.has.reads.same))
     (goes (moment_of puts.read i layout) (laying_at puts.read new i layout) (moment_of new j later)
     (tells (moment_of puts.read i layout) (fates_of new) layout
     (tells_put m old new t table write key rec i j layout later puts))
-    (law (laying_at puts.read new i layout) new.store j later t.0 table puts.version puts.before.way puts.laid.lays
+    (law (laying_at puts.read new i layout) new.store j later t.0 table puts.version puts.before.way
+    (bare_lays m table bare puts.read.store new.store puts.before.way write puts.version puts.laid.lays)
     (reads_told m old.store puts.read.store i puts.has.reads.keeps told) held puts.has.stored.its knows))

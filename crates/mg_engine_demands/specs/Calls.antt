@@ -26,6 +26,8 @@ use Rattle.mg_model.specs.declared.table.Table.{Table}
 use Rattle.mg_pool.specs.Dirty.{is_marked}
 use Rattle.mg_pool.specs.Pool.{shown}
 use Rattle.mg_records.specs.declared.write.Write.{Write}
+use Rattle.mg_row_writes.specs.Bare.{IsBare}
+use Rattle.mg_row_writes.specs.BareLaws.{bare_lays}
 use Rattle.mg_space.specs.View.{KeepsStore, Tells}
 use Rattle.mg_txlist.specs.TxList.{next_said}
 use Rattle.mg_ties.specs.CommitTies.{ShowsTip}
@@ -91,11 +93,12 @@ ReadsGo D m = (old new : Core D) (i : Image) (layout : Layout) → KeepsStore m 
     → new.list ≡ old.list → new.works ≡ old.works
     → GoesBy m (moment_of old i layout) (moment_of new i layout)
 
--- A row is put, by the transaction that writes it: the pages were sound and these are known, once it is said that its
--- commit is no longer asked for.
+-- A row is put into a table without indexes, by the transaction that writes it: the pages were sound and these are known,
+-- once it is said that its commit is no longer asked for.
 abbrev pub RowsGo : (D : Type 0) → Meaning D → Type 0
 RowsGo D m = (old new : Core D) (t : TxNo) (table : Table) (write : Write) (key : Value) (rec : Option RecId)
-    (i j : Image) (layout later : Layout) (puts : PutsRow m old new t table write key rec)
+    (i j : Image) (layout later : Layout) (puts : PutsRow m old new t table write key rec) (bare : IsBare table)
     → Tells m old.store.disk i → m.held new.store.disk ≡ Some j
-    → KnowsLay m (laying_at puts.read new i layout) new.store later t.0 table puts.version puts.before.way puts.laid.lays
+    → KnowsLay m (laying_at puts.read new i layout) new.store later t.0 table puts.version puts.before.way
+    (bare_lays m table bare puts.read.store new.store puts.before.way write puts.version puts.laid.lays)
     → GoesOn m (moment_of old i layout) (moment_of new j later)

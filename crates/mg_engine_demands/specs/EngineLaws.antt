@@ -29,8 +29,8 @@ module _ (D : Type 0) (m : Meaning D) (rows : RowsGo D m) (tables : TablesGo D m
       one_step m (moment_of old a place) (moment_of new a then_) (rollbacks_go D m old new t a place then_ back stood)
   one_goes first last i j layout later (a_read old new a place keeps list works) =
       one_step m (moment_of old a place) (moment_of new a place) (reads_go D m old new a place keeps list works)
-  one_goes first last i j layout later (a_row old new t table write key rec a b place then_ puts told held knows) =
-      rows old new t table write key rec a b place then_ puts told held knows
+  one_goes first last i j layout later (a_row old new t table write key rec a b place then_ puts bare told held knows) =
+      rows old new t table write key rec a b place then_ puts bare told held knows
   one_goes first last i j layout later
       (a_table old new t name shape keys table a b place then_ puts begins held knows) =
       tables old new t name shape keys table a b place then_ puts begins held knows

@@ -22,6 +22,8 @@ use Rattle.mg_image.specs.Tables.{Layout}
 use Rattle.mg_model.specs.declared.event.Mode.{Mode}
 use Rattle.mg_model.specs.declared.table.Table.{Table}
 use Rattle.mg_records.specs.declared.write.Write.{Write}
+use Rattle.mg_row_writes.specs.Bare.{IsBare}
+use Rattle.mg_row_writes.specs.BareLaws.{bare_lays}
 use Rattle.mg_demands.specs.Roots.{roots_of}
 use Rattle.mg_space.specs.Demands.{demands_of, meets_of}
 use Rattle.mg_space.specs.View.{KeepsStore, Tells}
@@ -51,10 +53,11 @@ pub data Obeys {D : Type 0} (m : Meaning D) : Core D → Image → Layout → Co
   a_read : (old new : Core D) (i : Image) (layout : Layout) → KeepsStore m old.store new.store → new.list ≡ old.list
       → new.works ≡ old.works → Obeys m old i layout new i layout
   a_row : (old new : Core D) (t : TxNo) (table : Table) (write : Write) (key : Value) (rec : Option RecId) (i j : Image)
-      (layout later : Layout) (puts : PutsRow m old new t table write key rec) → Tells m old.store.disk i
-      → m.held new.store.disk ≡ Some j
+      (layout later : Layout) (puts : PutsRow m old new t table write key rec) (bare : IsBare table)
+      → Tells m old.store.disk i → m.held new.store.disk ≡ Some j
       → KnowsLay m (laying_at puts.read new i layout) new.store later t.0 table puts.version puts.before.way
-      puts.laid.lays → Obeys m old i layout new j later
+      (bare_lays m table bare puts.read.store new.store puts.before.way write puts.version puts.laid.lays)
+      → Obeys m old i layout new j later
   a_table : (old new : Core D) (t : TxNo) (name : List ℕ) (shape : Shape) (keys : List Value) (table : Table)
       (i j : Image) (layout later : Layout) (puts : PutsTable m old new t name shape keys)
       → old.catalog.pointer.0 ≡ table.pointer.0 → m.held new.store.disk ≡ Some j
