@@ -113,6 +113,7 @@ module _ (one : RowsAreOne packed_coding) (one_way : StandsOneWay packed_form) (
     here : ((image : Image) → Tells m old.store.disk image → IsRecordOf (shown old.store.dirty image) table.pointer.0 rec)
         → ((image : Image) → Tells m old.store.disk image → IsSettled (shown old.store.dirty image) (said old.list) rec)
         → HasInNamed m mid mid_up rec
+    unfolding mid_up
     here is_record settled = named_behind m old core ready keeps walked up t.0 table rec given is_record settled
 
     read_so : (u : ℕ) → StaysSo m places old (record old { store = ready }) u
