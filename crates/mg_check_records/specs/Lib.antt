@@ -1,0 +1,5 @@
+pub mod Walks
+pub mod Marks
+pub mod Reads
+pub mod Records
+pub mod WalkLaws
