@@ -1,0 +1,2 @@
+mod DropLemmas
+mod PlaceLemmas

@@ -1,0 +1,39 @@
+//! A collection meets no damage, and wants no page. The function does nothing: its contract is the laws.
+
+ghost use Rattle.mg_collecting_damage.specs.Undamaged.{CollectionsMeetNone, CollectionsMissNone};
+
+use mg_base::Disk;
+use mg_engine_changes::writes_keep_plain;
+use mg_engine_steps::{batches_last, lists_go_on, tips_stay};
+use mg_generations::garbage_may_go;
+use mg_heap::tables_of_layouts_are_walked;
+use mg_image::one_reading;
+use mg_image_overlays::sound_images_stand_one_way;
+use mg_model::histories_go_on;
+use mg_no_damage::{
+    lawful_records_are_read, lawful_tables_are_read, pages_are_taken, records_change,
+    sound_images_are_lawful, stands_are_read,
+};
+use mg_space::FireLinks;
+
+/// A record that is collected at a place meets no damage, made or refused, and is refused for want of pages nowhere.
+pub fn collections_meet_no_damage<D: Disk>()
+    ensures damage { CollectionsMeetNone D D.meaning }
+    ensures pages { CollectionsMissNone D D.meaning }
+{
+    one_reading();
+    sound_images_stand_one_way();
+    tips_stay();
+    lists_go_on::<D, FireLinks>();
+    writes_keep_plain();
+    garbage_may_go();
+    histories_go_on();
+    tables_of_layouts_are_walked();
+    batches_last::<D, FireLinks>();
+    sound_images_are_lawful();
+    stands_are_read::<D>();
+    pages_are_taken();
+    lawful_records_are_read::<D>();
+    lawful_tables_are_read::<D>();
+    records_change::<D>();
+}
