@@ -14,10 +14,14 @@ trap 'rm -rf "$folder"' EXIT
 seconds() {
     local TIMEFORMAT='%R %U %S'
     { time "$@" > "$folder/printed" 2> "$folder/told" || echo failed; } 2>&1 | paste -sd' ' \
-        | awk '{ if ($1 == "failed") print "failed", "failed"; else printf "%.2f %.2f\n", $1, $2 + $3 }'
+        | awk '{ if ($NF == "failed") print "failed", "failed"; else printf "%.2f %.2f\n", $1, $2 + $3 }'
 }
 
-ours() { "$program" run "$folder/db" --limit 131072 --page "$page" < "$folder/script"; }
+# A script may have a megabyte: a longer one is obeyed by several runs, cut where no transaction is open.
+ours() {
+    local part
+    for part in "$folder"/part.*; do "$program" run "$folder/db" --limit 131072 --page "$page" < "$part" || return 1; done
+}
 theirs() { sqlite3 -bail "$folder/lite" < "$folder/sql"; }
 
 # One load: its name, and the names of the functions that write our script and that for sqlite3, given a size. Pages have
@@ -25,8 +29,12 @@ theirs() { sqlite3 -bail "$folder/lite" < "$folder/sql"; }
 page=4096
 load() {
     local name=$1 make=$2 size=$3 own lite='- -'
-    rm -f "$folder"/db "$folder"/lite*
-    "$make" ours "$size" > "$folder/script"
+    rm -f "$folder"/db "$folder"/lite* "$folder"/part.*
+    "$make" ours "$size" | awk -v part="$folder/part." '
+        { if (bytes > 900000 && !open && $2 != "COMMIT") { bytes = 0; number++ }
+          if ($0 ~ /SET TRANSACTION/) open = 1
+          if ($0 ~ /COMMIT/) open = 0
+          bytes += length($0) + 1; print > (part sprintf("%03d", number)) }'
     { echo "PRAGMA page_size=$page; PRAGMA journal_mode=WAL; PRAGMA synchronous=FULL;"; "$make" theirs "$size"; } > "$folder/sql"
     own=$(seconds ours)
     command -v sqlite3 > /dev/null && lite=$(seconds theirs)
