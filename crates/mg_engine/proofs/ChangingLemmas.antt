@@ -35,8 +35,6 @@ use Rattle.mg_records.specs.Keeping.{refusal_in}
 use Rattle.mg_records.specs.Room.{pages_of_row}
 use Rattle.mg_records.specs.Writing.{FitsShape, event_of}
 use Rattle.mg_records.specs.declared.write.Write.{Write}
-use Rattle.mg_row_writes.specs.Storing.{row_stored}
-use Rattle.mg_rowcode.specs.Storable.{AreStorable}
 use Rattle.mg_taking_back.specs.Noting.{FailsNoted, WritesNoted}
 use Rattle.mg_works.specs.Works.{AreApart, MayBeGiven, given_to}
 
@@ -63,8 +61,7 @@ counts_fit core counts = record {
 }
 
 module _ {D : Type 0} (m : Meaning D) (parts : ChangeParts m) (places : Places Place) (t : TxNo) (table : Table)
-    (write : Write) (may : MayBeGiven table) (fits : FitsShape table.shape write)
-    (storable : AreStorable (row_stored table write)) where
+    (write : Write) (may : MayBeGiven table) (fits : FitsShape table.shape write) where
   -- ---- the row is written
 
   written : (old new : Core D) → IsCore m old → HasCounts old → AreApart old.works
@@ -74,7 +71,7 @@ module _ {D : Type 0} (m : Meaning D) (parts : ChangeParts m) (places : Places P
   written old new core counts apart given result is = record {
     gives = gives result is;
     told = parts.told old new t table write result is;
-    undamaged = parts.whole old new t table write result core given fits storable is;
+    undamaged = parts.whole old new t table write result core given fits is;
     room = parts.few old new t table write result core given is;
     apart = sessions result is;
   }
@@ -83,16 +80,15 @@ module _ {D : Type 0} (m : Meaning D) (parts : ChangeParts m) (places : Places P
           → MatchResult result (λ _. WritesNoted m old new t table write) (FailsNoted m old new t table write)
           → GivesEvent m places old new (event_of t table.name write) (fine_or result) (refusal_in result) None
           (Some t.0) None None
-      gives (Ok x) is = parts.writes places old new t table write core given fits storable is
-      gives (Err refusal) is = parts.fails places old new t table write refusal core (counts_fit old counts) given fits
-          storable is
+      gives (Ok x) is = parts.writes places old new t table write core given fits is
+      gives (Err refusal) is = parts.fails places old new t table write refusal core (counts_fit old counts) given fits is
 
       sessions : (result : Result (Unit {0}) Refusal)
           → MatchResult result (λ _. WritesNoted m old new t table write) (FailsNoted m old new t table write)
           → AreApart new.works
       sessions (Ok x) is = parts.writes_apart old new t table write core given may apart is
       sessions (Err refusal) is = parts.fails_apart places old new t table write refusal core (counts_fit old counts)
-          given fits storable may apart is
+          given fits may apart is
 
   -- ---- once the keys of its table are noted
 
@@ -150,14 +146,14 @@ module _ {D : Type 0} (m : Meaning D) (parts : ChangeParts m) (places : Places P
             is.fails)
 
 pub changes_go_on : {D : Type 0} (m : Meaning D) → ChangeParts m → ChangesGoOn D m
-changes_go_on m parts places old new t table write (Ok x) core counts apart may given fits storable has =
-    noted_written m parts places t table write may fits storable old new counts apart given (Ok x)
+changes_go_on m parts places old new t table write (Ok x) core counts apart may given fits has =
+    noted_written m parts places t table write may fits old new counts apart given (Ok x)
     (record { noted = has.noted; core = has.core; notes = has.notes; goes = has.goes })
-changes_go_on m parts places old new t table write (Err refusal) core counts apart may given fits storable (inr has) =
-    noted_written m parts places t table write may fits storable old new counts apart given (Err refusal)
+changes_go_on m parts places old new t table write (Err refusal) core counts apart may given fits (inr has) =
+    noted_written m parts places t table write may fits old new counts apart given (Err refusal)
     (record { noted = has.noted; core = has.core; notes = has.notes; goes = has.goes })
-changes_go_on m parts places old new t table write (Err refusal) core counts apart may given fits storable (inl is) =
-    unread m parts places t table write may fits storable old new counts apart given core refusal is
+changes_go_on m parts places old new t table write (Err refusal) core counts apart may given fits (inl is) =
+    unread m parts places t table write may fits old new counts apart given core refusal is
 
 -- ---- the row was written from there
 

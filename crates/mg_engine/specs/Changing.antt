@@ -22,8 +22,6 @@ use Rattle.mg_records.specs.Keeping.{refusal_in}
 use Rattle.mg_records.specs.Room.{pages_of_row}
 use Rattle.mg_records.specs.Writing.{FitsShape, event_of}
 use Rattle.mg_records.specs.declared.write.Write.{Write}
-use Rattle.mg_row_writes.specs.Storing.{row_stored}
-use Rattle.mg_rowcode.specs.Storable.{AreStorable}
 use Rattle.mg_taking_back.specs.Noting.{FailsNoted, WritesNoted}
 use Rattle.mg_works.specs.Works.{AreApart, MayBeGiven, given_to}
 
@@ -50,5 +48,5 @@ abbrev pub ChangesGoOn : (D : Type 0) → Meaning D → Type 0
 ChangesGoOn D m = (places : Places Place) (old new : Core D) (t : TxNo) (table : Table) (write : Write)
     (result : Result (Unit {0}) Refusal) → IsCore m old → HasCounts old → AreApart old.works → MayBeGiven table
     → given_to old.works t.0 table.name ≡ Some table → FitsShape table.shape write
-    → AreStorable (row_stored table write) → WritesFirst m old new t table write result
+    → WritesFirst m old new t table write result
     → GivesWrite m places old new t table write result

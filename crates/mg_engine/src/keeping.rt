@@ -11,7 +11,6 @@ use crate::engine::Engine;
 use crate::making::{note_columns, note_name};
 use crate::sizes::{copy_place, counts_fit, ranked, slots_fit, tell_counts};
 use crate::taking::{take_to_mark, take_to_savepoint};
-use crate::writing::note_write;
 use mg_base::{Disk, Memory, TxNo};
 use mg_core::Place;
 use mg_engine_changes::{
@@ -140,7 +139,6 @@ impl<D: Disk> Records for Engine<D> {
     fn write_step(&mut self, t: TxNo, table: &Table, write: &Write) -> Result<(), Refusal> {
         changes_go_on::<D>();
         counts_fit(self.core.damage, self.core.shortages);
-        note_write(table, write);
         write_row(&mut self.core, t, table, write)
     }
 

@@ -21,6 +21,5 @@ mod opening;
 mod page_writes;
 mod sizes;
 mod taking;
-mod writing;
 
 pub use engine::Engine;

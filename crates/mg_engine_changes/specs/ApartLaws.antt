@@ -82,13 +82,13 @@ noted_writes_apart m counts_now works_stay notes_stay old new t table write core
 pub noted_fails_apart : {D P : Type 0} (m : Meaning D) → NotedWorksStay → NotedTablesAreKept → NotesStay D m
     → RefusalsGoOn D P m → NotLaidGives D P m → NotedFailsApart D P m
 noted_fails_apart {D} m works_stay kept notes_stay refusals not_laid places old new t table write refusal core counted given
-    fits storable may apart (noted_not refused) =
+    fits may apart (noted_not refused) =
     subst AreApart (sym (ap (λ (c : Core D). c.works) refused.wait.same)) apart
 noted_fails_apart {D} m works_stay kept notes_stay refusals not_laid places old new t table write refusal core counted given
-    fits storable may apart (noted_memory continues ends is) =
+    fits may apart (noted_memory continues ends is) =
     subst AreApart (sym (ap (λ (c : Core D). c.works) ends.same)) apart
 noted_fails_apart {D} {P} m works_stay kept notes_stay refusals not_laid places old new t table write refusal core counted
-    given fits storable may apart (noted_fails fails) = at (refusals places (with_noted t.0 table old) new t table write
+    given fits may apart (noted_fails fails) = at (refusals places (with_noted t.0 table old) new t table write
     refusal core_ counted_ given_ fails)
   where
     core_ : IsCore m (with_noted t.0 table old)
@@ -108,6 +108,6 @@ noted_fails_apart {D} {P} m works_stay kept notes_stay refusals not_laid places 
     at (inl still) = subst AreApart (sym still.works) apart_
     at (inr failed) = subst AreApart
         (sym (not_laid places (with_noted t.0 table old) new t table write refusal core_ counted_ given_
-        (table_noted kept old t table given) fits storable failed).1)
+        (table_noted kept old t table given) fits failed).1)
         (retracted_apart t.0 table.pointer.0 (written_at table write) failed.before.was (noted t.0 table old.works)
         apart_)

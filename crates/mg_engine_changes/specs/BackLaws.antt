@@ -18,7 +18,7 @@ use Rattle.mg_engine_steps.specs.ListShows.{ListsStay}
 use Rattle.mg_engine_steps.specs.Standing.{Standing, Stands}
 use Rattle.mg_engine_steps.specs.Walking.{AreToCome, WalkPlace}
 use Rattle.mg_directory.specs.Candidates.{by_table}
-use Rattle.mg_noted.specs.Noted.{HasDirectories}
+use Rattle.mg_engine_meaning.specs.KnownRecords.{KnowsIts}
 use Rattle.mg_engine_changes.specs.EngineBacks.{EnginesGoBackTo, IsBackEntry, OthersWalkOnBack}
 use Rattle.mg_engine_changes.specs.Given.{AreGiven, UndoListsGiveKeys}
 use Rattle.mg_engine_changes.specs.Keys.{CoresTakeAll, HasTakenKeys}
@@ -375,8 +375,9 @@ module _ {D : Type 0} (m : Meaning D) (openings : OpeningsBegin) (unask : Unaski
     plain_tables = subst (λ (n : ℕ). HasPlainTables n (said old.list) (shown takes.takes.taken.store.dirty taken.image))
         (sym taken.knows.size_is) taken.knows.plain;
     no_directory = shows.no_directory;
-    noted = subst (λ (n : ℕ). HasDirectories n (said old.list) (shown takes.takes.taken.store.dirty taken.image)
-        old.directories) (sym taken.knows.size_is) (keeps_lists.noted (by_table old.directories.dirs) shows.noted);
+    known = subst (λ (n : ℕ). KnowsIts o.next.0 n (said old.list) (shown takes.takes.taken.store.dirty taken.image)
+        old.directories) (sym taken.knows.size_is)
+        (keeps_lists.known o.next.0 (by_table old.directories.dirs) shows.known);
   }
 
   stands_now : StandsFor m now o (e ∷ h)

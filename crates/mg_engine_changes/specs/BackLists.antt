@@ -4,7 +4,7 @@ use Rattle.mg_base.specs.Disk.{Meaning}
 use Rattle.mg_base.specs.Image.{Image}
 use Rattle.mg_engine_steps.specs.Midway.{GoesBack}
 use Rattle.mg_engine_meaning.specs.PlainTables.{HasPlainTables}
-use Rattle.mg_engine_changes.specs.Directories.{StaysNoted}
+use Rattle.mg_engine_changes.specs.Directories.{StaysKnown}
 use Rattle.mg_engine_changes.specs.Tips.{KeepsTips}
 use Rattle.mg_engine_changes.specs.TakingSteps.{StandsMidway, TakesKeysOf}
 use Rattle.mg_image.specs.Form.{Pages, packed_form}
@@ -23,7 +23,7 @@ use Rattle.mg_engine_steps.specs.Standing.{Remembers, ShowsHistory, Standing}
 pub record KeepsLists (size : ℕ) (s : Standing) (pages later : Pages) : Type 0 where
   pub tips : KeepsTips size pages later
   pub plain : HasPlainTables size s.state pages → HasPlainTables size s.state later
-  pub noted : StaysNoted size s.state pages later
+  pub known : StaysKnown size s.state pages later
 
 -- over any number of keys
 abbrev pub KeysKeepLists : (D L : Type 0) → Meaning D → Type 0

@@ -4,7 +4,7 @@ use Rattle.mg_base.specs.Disk.{Meaning}
 use Rattle.mg_base.specs.Image.{Image}
 use Rattle.mg_base.specs.declared.numbers.RecId.{RecId}
 use Rattle.mg_base.specs.declared.transaction.TxState.{TxState}
-use Rattle.mg_engine_changes.specs.DirectoryChanges.{back_noted}
+use Rattle.mg_engine_changes.specs.RecordChanges.{back_known}
 use Rattle.mg_image_overlays.specs.OwnVersion.{FindsNewest}
 use Rattle.mg_ties.specs.Newest.{newest_found}
 use Rattle.mg_version.specs.declared.cell.Link.{Link}
@@ -184,7 +184,7 @@ module _ {D L : Type 0} (m : Meaning D) (one : RowsAreOne packed_coding) (move :
       catalog = second.tips.catalog ∙ first.tips.catalog;
     };
     plain = λ bare. second.plain (first.plain bare);
-    noted = λ dirs was. second.noted dirs (first.noted dirs was);
+    known = λ from dirs was. second.known from dirs (first.known from dirs was);
   }
 
   -- one key, at the size of the cache
@@ -203,8 +203,8 @@ module _ {D L : Type 0} (m : Meaning D) (one : RowsAreOne packed_coding) (move :
         at_key.layout at_key.reading rec back.es table at_key.sound back.reads at_key.of_table at_key.may.no_catalog
         (λ chosen. pool_is_kept packed_form D L ready.geometry.size o (again t left (e ∷ h)) s.state asked session
         ready i chosen midway.cache.kept);
-    noted = back_noted one_way ready.geometry.size s.state (shown ready.dirty i) (shown after.dirty j) at_key.layout
-        at_key.reading at_key.sound rec back.es back.reads table back.of (has_versions how)
+    known = back_known one_way ready.geometry.size s.state (shown ready.dirty i) (shown after.dirty j) at_key.layout
+        at_key.reading at_key.sound rec back.es back.reads table back.of at_key.may.no_catalog (has_versions how)
         (λ some. back.key_stays some ∙ sym back.keyed);
   }
     where
@@ -253,7 +253,7 @@ module _ {D L : Type 0} (m : Meaning D) (one : RowsAreOne packed_coding) (move :
   lists_self size pages = record {
     tips = record { tips = λ sequence below. (refl, refl); next = refl; catalog = refl };
     plain = λ bare. bare;
-    noted = λ dirs was. was;
+    known = λ from dirs was. was;
   }
 
   pub all_keep : ReadsLast D L m packed_form → (size : ℕ) (first : ShowsHistory packed_form size o h s begun)

@@ -53,9 +53,8 @@ use Rattle.mg_version.specs.declared.cell.Version.{Version}
 use Rattle.mg_engine_meaning.specs.Formers.{IsOfKind, MayReturn}
 use Rattle.mg_engine_meaning.specs.PlainTables.{AreFirst}
 use Rattle.mg_rowcode.specs.Faults.{DecodesTo}
-use Rattle.mg_rowcode.specs.Storable.{IsStorable}
 use Rattle.mg_engine_changes.specs.CodeLaws.{first_fits, for_first, index_is}
-use Rattle.mg_engine_changes.specs.ReturnLaws.{kind_at, storable_at}
+use Rattle.mg_engine_changes.specs.ReturnLaws.{kind_at}
 use Rattle.mg_engine_changes.specs.Befores.{BeforesAreTold}
 
 -- ---- own changes as what is kept of them
@@ -257,17 +256,14 @@ module _ (places : PlacesOfReadings) (rows : RowsOfReadings) (size : ℕ) (o : O
       own_returns b first own_ = at e.version.deleted refl own_.was
         where
           at : (d : Bool) → e.version.deleted ≡ d → IsWas d table e.version b.was → MayReturn table.shape key b.was
-          at true gone was = subst (MayReturn table.shape key) (sym was) (
-            subst IsStorable key_there (storable_at e.row table.shape.key its_version.storable),
-            subst (IsOfKind (slice_get table.shape.columns table.shape.key)) key_there
-                (kind_at table.shape.key 0 table.shape.columns e.row table.shape.key
-                (first_fits (columns_for table true) e.version.body e.row (for_first table true plain_columns)
-                (decoded true gone))),
-          )
+          at true gone was = subst (MayReturn table.shape key) (sym was)
+              (subst (IsOfKind (slice_get table.shape.columns table.shape.key)) key_there
+              (kind_at table.shape.key 0 table.shape.columns e.row table.shape.key
+              (first_fits (columns_for table true) e.version.body e.row (for_first table true plain_columns)
+              (decoded true gone))))
           at false kept (row, was, gives) = subst (MayReturn table.shape key)
               (sym (was ∙ ap (λ (x : Row). wases.Row x) (row_is first row kept gives))) (
                 sym (index_is e.row table.shape.key) ∙ key_there,
-                its_version.storable,
                 first_fits (columns_for table false) e.version.body e.row (for_first table false plain_columns)
                     (decoded false kept),
               )

@@ -22,7 +22,7 @@ use Rattle.mg_version.specs.declared.cell.Link.{Link}
 use Rattle.mg_engine_meaning.specs.PlainTables.{HasPlainTables}
 use Rattle.mg_engine_meaning.specs.Standings.{HasTips}
 use Rattle.mg_engine_changes.specs.Tips.{KeepsTips}
-use Rattle.mg_engine_changes.specs.Directories.{StaysNoted}
+use Rattle.mg_engine_changes.specs.Directories.{StaysKnown}
 use Rattle.mg_engine_changes.specs.Walks.{OthersWalkOn}
 
 -- Pages show a history, and the newest version of the record that speaks for a key is committed.
@@ -44,7 +44,7 @@ pub record HasCleared {D : Type 0} (m : Meaning D) (o : Opening) (h : Entries) (
   pub lasts : LastsOn m packed_form o h after asked session
   pub leaves : LeavesSince m before.disk after.disk (HoldsAcknowledged packed_form before.dirty.size o h)
   pub others : OthersWalkOn before.geometry.size s was (shown after.dirty image) t
-  pub noted : StaysNoted before.geometry.size s.state was (shown after.dirty image)
+  pub known : StaysKnown before.geometry.size s.state was (shown after.dirty image)
   pub settled_of : HasSettled after.geometry.size o h s list (shown after.dirty image) rec name key
 
 -- A batch that adds nothing to the history was changed: the pages show it as they did, and all others walk on.
@@ -59,4 +59,4 @@ pub record StaysFor {D : Type 0} (m : Meaning D) (o : Opening) (h : Entries) (s 
   pub stands : Stands packed_form after.geometry.size o h s (Some (shown after.dirty image))
   pub tips : HasTips list after.geometry.size (shown after.dirty image)
   pub plain : HasPlainTables after.geometry.size s.state (shown after.dirty image)
-  pub noted : StaysNoted before.geometry.size s.state was (shown after.dirty image)
+  pub known : StaysKnown before.geometry.size s.state was (shown after.dirty image)

@@ -82,7 +82,7 @@ use Rattle.mg_engine_changes.specs.Plain.{WritesKeepPlain}
 use Rattle.mg_engine_changes.specs.TipLaws.{taking_out_keeps_tips}
 use Rattle.mg_engine_changes.specs.Tips.{KeepsTips}
 use Rattle.mg_engine_changes.specs.WalkLaws.{same_walk_on, unseen}
-use Rattle.mg_engine_changes.specs.DirectoryChanges.{taken_keeps}
+use Rattle.mg_engine_changes.specs.RecordChanges.{taken_keeps}
 use Rattle.mg_image_overlays.specs.OneLayout.{StandsOneWay}
 use Rattle.mg_engine_changes.specs.Walks.{OthersWalkOn}
 
@@ -354,7 +354,7 @@ module _ (one : RowsAreOne packed_coding) (one_way : StandsOneWay packed_form) (
     lasts = stayed.lasts;
     leaves = stayed.leaves;
     others = others_on;
-    noted = taken_keeps one_way size s.state pool later shows.layout shows.reading shows.sound rec it.older reads.0
+    known = taken_keeps one_way size s.state pool later shows.layout shows.reading shows.sound rec it.older reads.0
         it.newest it.first;
     settled_of = subst (λ (x : Geometry). HasSettled x.size o h s list (shown after.dirty j) rec its.name key)
         (sym geometry) (record {

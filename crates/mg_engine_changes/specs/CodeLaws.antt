@@ -23,7 +23,6 @@ use Rattle.mg_records.specs.declared.write.Write.TheVariants as writes
 use Rattle.mg_rle.specs.Runs.{StandsFor}
 use Rattle.mg_row_writes.specs.Storing.{IsStored, alone_at, erases, row_stored, written_at}
 use Rattle.mg_rowcode.specs.Faults.{DecodesTo}
-use Rattle.mg_rowcode.specs.Storable.{AreStorable}
 use Rattle.mg_version.specs.declared.cell.Version.{Version}
 use Rattle.mg_engine_meaning.specs.PlainTables.{AreFirst}
 use Rattle.mg_engine_changes.specs.Codes.{StoredRowsAreCoded}
@@ -128,12 +127,11 @@ module _ (its table : Table) (t : ℕ) (v : Version) (same : IsSameTable its tab
   key_is : (row : Row) → key_of its row ≡ slice_index_or row table.shape.key Null
   key_is row = ap (λ (n : ℕ). get_or row n Null) key_place ∙ index_is row table.shape.key
 
-  codes : (write : Write) → FitsShape table.shape write → AreStorable (row_stored table write)
-      → IsStored table t write v → key_of its (row_stored table write) ≡ written_at table write
+  codes : (write : Write) → FitsShape table.shape write → IsStored table t write v → key_of its (row_stored table write) ≡ written_at table write
       → (erases write ≡ true → IsKeyAlone its (row_stored table write))
       → (if erases write then None else Some (told_row its (row_stored table write))) ≡ row_given write
       → CodesRow packed_coding its v (row_stored table write) t (written_at table write) (row_given write)
-  codes write fits storable stored keyed alone given = record {
+  codes write fits stored keyed alone given = record {
     its = stored.its;
     format = stored.format;
     spelled = subst (λ (f : ℕ). DecodesTo (columns_for its v.deleted) f v.body (row_stored table write))
@@ -141,7 +139,7 @@ module _ (its table : Table) (t : ℕ) (v : Version) (same : IsSameTable its tab
         (sym stored.deleted) (subst (λ (cs : List Column). DecodesTo cs 1 v.body (row_stored table write))
         (sym (columns_same (erases write))) (decodes (columns_for table (erases write)) v.body
         (row_stored table write) (for_first table (erases write) first) stored.row.fits stored.row.packed)));
-    storable = storable;
+    storable = stored.row.storable;
     erased = λ gone. alone (sym stored.deleted ∙ gone);
     keyed = keyed;
     given = ap (λ (d : Bool). if d then None else Some (told_row its (row_stored table write))) stored.deleted ∙ given;
@@ -154,19 +152,18 @@ module _ (its table : Table) (t : ℕ) (v : Version) (same : IsSameTable its tab
   erased_key key (Some column) is of = alone_here table.shape.key 0 key table.shape.columns table.shape.key column
       (let zero_less : 0 + table.shape.key ≡ table.shape.key = omega arith in zero_less) is
 
-  pub coded : (write : Write) → FitsShape table.shape write → AreStorable (row_stored table write)
-      → IsStored table t write v
+  pub coded : (write : Write) → FitsShape table.shape write → IsStored table t write v
       → CodesRow packed_coding its v (row_stored table write) t (written_at table write) (row_given write)
-  coded (writes.Insert row) fits storable stored = codes (writes.Insert row) fits storable stored (key_is row)
+  coded (writes.Insert row) fits stored = codes (writes.Insert row) fits stored (key_is row)
       (λ gone. absurd (false≢true gone)) (ap Some (plain row))
-  coded (writes.Change key row) fits storable stored = codes (writes.Change key row) fits storable stored
+  coded (writes.Change key row) fits stored = codes (writes.Change key row) fits stored
       (key_is row ∙ fits.1) (λ gone. absurd (false≢true gone)) (ap Some (plain row))
-  coded (writes.Erase key) fits storable stored = codes (writes.Erase key) fits storable stored
+  coded (writes.Erase key) fits stored = codes (writes.Erase key) fits stored
       (ap (λ (n : ℕ). get_or (alone_at table.shape.key 0 key table.shape.columns) n Null) key_place
       ∙ erased_key key (slice_get table.shape.columns table.shape.key) refl fits)
       (λ gone i ne. alone_else table.shape.key 0 key table.shape.columns i (λ same_.
       let plus : i ≡ 0 + i = omega arith in ne (plus ∙ (same_ ∙ sym key_place)))) refl
 
 pub stored_rows_are_coded : StoredRowsAreCoded
-stored_rows_are_coded its table t write v same other first fits storable stored =
-    coded its table t v same other first write fits storable stored
+stored_rows_are_coded its table t write v same other first fits stored =
+    coded its table t v same other first write fits stored

@@ -8,7 +8,6 @@ use Rattle.mg_model.specs.Changes.{same_name}
 use Rattle.mg_records.specs.Writing.{FitsShape}
 use Rattle.mg_records.specs.declared.write.Write.{Write}
 use Rattle.mg_row_writes.specs.Storing.{IsStored, row_stored, written_at}
-use Rattle.mg_rowcode.specs.Storable.{AreStorable}
 use Rattle.mg_version.specs.declared.cell.Version.{Version}
 use Rattle.mg_engine_changes.specs.Kept.{row_given}
 use Rattle.mg_engine_meaning.specs.PlainTables.{AreFirst}
@@ -18,5 +17,5 @@ use Rattle.mg_engine_steps.specs.Knowing.{CodesRow}
 abbrev pub StoredRowsAreCoded : Type 0
 StoredRowsAreCoded = (its table : Table) (t : ℕ) (write : Write) (v : Version) → IsSameTable its table
     → same_name table.name catalog_name ≡ false → AreFirst table.shape.columns → FitsShape table.shape write
-    → AreStorable (row_stored table write) → IsStored table t write v
+    → IsStored table t write v
     → CodesRow packed_coding its v (row_stored table write) t (written_at table write) (row_given write)

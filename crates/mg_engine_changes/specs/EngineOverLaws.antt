@@ -10,9 +10,9 @@ use Rattle.mg_base.specs.declared.transaction.TxState.TheVariants.{Active}
 use Rattle.mg_core.specs.Cores.{Continues, IsCore, IsCatalog}
 use Rattle.mg_core.specs.declared.parts.Core.{Core}
 use Rattle.mg_directory.specs.Candidates.{by_table}
-use Rattle.mg_noted.specs.Noted.{HasDirectories}
-use Rattle.mg_engine_changes.specs.Directories.{StaysNoted}
-use Rattle.mg_engine_changes.specs.DirectoryChanges.{left_noted}
+use Rattle.mg_engine_meaning.specs.KnownRecords.{KnowsIts}
+use Rattle.mg_engine_changes.specs.Directories.{StaysKnown}
+use Rattle.mg_engine_changes.specs.RecordChanges.{left_known}
 use Rattle.mg_engine_changes.specs.BackLaws.{all_kept, going_kept}
 use Rattle.mg_engine_changes.specs.BackLists.{KeepsLists, KeysKeepLists}
 use Rattle.mg_engine_changes.specs.BackPages.{KeysKeepPages}
@@ -530,11 +530,11 @@ module _ {D : Type 0} (m : Meaning D) (openings : OpeningsBegin) (unask : Unaski
         there = stood.of;
       })
 
-  noted_now : StaysNoted size (said old.list) pages (shown takes.takes.taken.store.dirty rows.image)
-  noted_now dirs noted = left_noted one_way size (said old.list) t (shown both.mid.store.dirty taken.image)
+  known_now : StaysKnown size (said old.list) pages (shown takes.takes.taken.store.dirty rows.image)
+  known_now from dirs was = left_known one_way size (said old.list) t (shown both.mid.store.dirty taken.image)
       (shown takes.takes.taken.store.dirty rows.image) taken.midway.pages.layout step.1.tables.c
       taken.midway.pages.reading step.1.tables.rc (is_among takes.takes.keys) taken.midway.pages.sound
-      step.1.tables.leaves step.1.tables.takes step.1.tables.sound dirs (keeps_lists.noted dirs noted)
+      step.1.tables.leaves step.1.tables.takes step.1.tables.sound from dirs (keeps_lists.known from dirs was)
 
   header_same : (header_of (shown takes.takes.taken.store.dirty rows.image)).catalog.0
       ≡ (header_of (shown both.mid.store.dirty taken.image)).catalog.0
@@ -552,8 +552,8 @@ module _ {D : Type 0} (m : Meaning D) (openings : OpeningsBegin) (unask : Unaski
     plain_tables = subst (λ (n : ℕ). HasPlainTables n (said old.list) (shown takes.takes.taken.store.dirty rows.image))
         (sym size_now) plain_now;
     no_directory = shows.no_directory;
-    noted = subst (λ (n : ℕ). HasDirectories n (said old.list) (shown takes.takes.taken.store.dirty rows.image)
-        old.directories) (sym size_now) (noted_now (by_table old.directories.dirs) shows.noted);
+    known = subst (λ (n : ℕ). KnowsIts o.next.0 n (said old.list) (shown takes.takes.taken.store.dirty rows.image)
+        old.directories) (sym size_now) (known_now o.next.0 (by_table old.directories.dirs) shows.known);
   }
 
   -- ---- what is kept

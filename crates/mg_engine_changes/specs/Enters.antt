@@ -52,7 +52,6 @@ use Rattle.mg_pool_overlays.specs.Needs.{Asked, Sessions}
 use Rattle.mg_row_writes.specs.Befores.{IsBefore}
 use Rattle.mg_row_writes.specs.Storing.{IsStored, row_stored, written_at}
 use Rattle.mg_row_writes.specs.declared.before.Before.{Before}
-use Rattle.mg_rowcode.specs.Storable.{AreStorable}
 use Rattle.mg_seek.specs.Speaking.{IsSpeaker, Speaks}
 use Rattle.mg_space.specs.declared.links.FireLinks.{FireLinks}
 use Rattle.mg_ties.specs.Changed.{KeptIn, fresh}
@@ -93,9 +92,9 @@ use Rattle.mg_engine_changes.specs.Codes.{StoredRowsAreCoded}
 use Rattle.mg_engine_changes.specs.Kept.{MadeWritesFollow, NotesWrite, made_by, row_given}
 use Rattle.mg_directory.specs.Candidates.{Kept, NotesOrDrops, by_table}
 use Rattle.mg_image_overlays.specs.OneLayout.{StandsOneWay}
-use Rattle.mg_noted.specs.Noted.{HasDirectories}
+use Rattle.mg_engine_meaning.specs.KnownRecords.{KnowsIts}
 use Rattle.mg_sortkey.specs.KeyBytes.{key_bytes}
-use Rattle.mg_engine_changes.specs.DirectoryChanges.{none_noted}
+use Rattle.mg_engine_changes.specs.RecordChanges.{none_noted}
 use Rattle.mg_engine_changes.specs.Laid.{HasNoted, LeavesPages}
 use Rattle.mg_engine_changes.specs.Owners.{SeenMayBeWritten}
 use Rattle.mg_chain.specs.Writing.{Pushes, Replaces, GivesSpot, MakesRecord, TakesOut}
@@ -157,7 +156,7 @@ module _ (speakers : SpeakersAreTold) (befores : BeforesAreTold) (follow : MadeW
     (shows : ShowsIt m core o h (standing_of core stands.numbers stands.tables)) (t : TxNo)
     (counts : said core.list t.0 ≡ Active) (work : Working) (work_is : work_of core.works t.0 ≡ Some work)
     (table : Table) (given : given_to core.works t.0 table.name ≡ Some table) (write : Write)
-    (fits : FitsShape table.shape write) (storable : AreStorable (row_stored table write)) (waits : List (ℕ × ℕ))
+    (fits : FitsShape table.shape write) (waits : List (ℕ × ℕ))
     (over : NowWaits (edges_in core.waits) (edges_in waits) t.0 None) (before : Before) (v : Version)
     (stored : IsStored table t.0 write v) (answered : answer o h (event_of t table.name write) ≡ Fine) where
   abbrev s : Standing
@@ -289,7 +288,7 @@ module _ (speakers : SpeakersAreTold) (befores : BeforesAreTold) (follow : MadeW
   pub codes : CodesRow packed_coding there.its v (row_stored table write) t.0 (written_at table write)
       (row_given write)
   codes = coded there.its table t.0 write v there.same other
-      (subst (λ (x : Shape). AreFirst x.columns) there.same.shape plain_its.first) fits storable stored
+      (subst (λ (x : Shape). AreFirst x.columns) there.same.shape plain_its.first) fits stored
 
   pub entries : (at : RecId) → HasEntries (shown core.store.dirty shows.image) there.its at v
       (row_stored table write)
@@ -465,8 +464,8 @@ module _ (speakers : SpeakersAreTold) (befores : BeforesAreTold) (follow : MadeW
             (sym geometry) leaves.plain;
         no_directory = none_noted (by_table core.directories.dirs) (by_table kept.dirs) table.pointer.0
             (key_bytes (written_at table write)) rec notes core.catalog.pointer.0 shows.no_directory;
-        noted = subst (λ (g : Geometry). HasDirectories g.size (said core.list) (shown after.dirty j) kept)
-            (sym geometry) (leaves.noted (by_table core.directories.dirs) (by_table kept.dirs) shows.noted
+        known = subst (λ (g : Geometry). KnowsIts o.next.0 g.size (said core.list) (shown after.dirty j) kept)
+            (sym geometry) (leaves.known o.next.0 (by_table core.directories.dirs) (by_table kept.dirs) shows.known
             (subst (λ (p : PageNo). NotesOrDrops (by_table core.directories.dirs) (by_table kept.dirs) p.0
             (key_bytes (written_at table write)) rec) (sym there.same.pointer) notes));
       }

@@ -69,9 +69,9 @@ use Rattle.mg_engine_meaning.specs.Standings.{HasTips, ShowsIt, StandsFor, Stand
 use Rattle.mg_engine_meaning.specs.StepLaws.{as_standing, shows_of}
 use Rattle.mg_engine_changes.specs.Clearing.{StaysFor}
 use Rattle.mg_directory.specs.Candidates.{by_table}
-use Rattle.mg_engine_changes.specs.DirectoryChanges.{grown_keeps}
+use Rattle.mg_engine_changes.specs.RecordChanges.{grown_keeps}
 use Rattle.mg_image_overlays.specs.OneLayout.{StandsOneWay}
-use Rattle.mg_noted.specs.Noted.{HasDirectories}
+use Rattle.mg_engine_meaning.specs.KnownRecords.{KnowsIts}
 use Rattle.mg_engine_changes.specs.Laid.{StaysOver, bare_standing}
 use Rattle.mg_engine_changes.specs.PlainLaws.{grown_keeps_plain}
 use Rattle.mg_engine_changes.specs.TipLaws.{growth_keeps_tips}
@@ -290,7 +290,7 @@ module _ (one : RowsAreOne packed_coding) (one_way : StandsOneWay packed_form) (
     plain = subst (λ (g : Geometry). HasPlainTables g.size s.state (shown after.dirty j)) (sym geometry)
         (grown_keeps_plain one size o h s.state pool later shows.layout stood.layout shows.reading at shows.sound
         stood.sound stood.grown kept_each plain);
-    noted = grown_keeps one_way size s.state pool later shows.layout stood.layout shows.reading shows.sound stood.sound
+    known = grown_keeps one_way size s.state pool later shows.layout stood.layout shows.reading shows.sound stood.sound
         stood.grown.stays;
   }
 
@@ -365,8 +365,8 @@ module _ (one : RowsAreOne packed_coding) (one_way : StandsOneWay packed_form) (
     catalog = shows_it.catalog ∙ sym stays.keeps.catalog;
     plain_tables = stays.plain;
     no_directory = shows_it.no_directory;
-    noted = subst (λ (g : Geometry). HasDirectories g.size (said old.list) (shown store.dirty stays.image)
-        old.directories) (sym store_geometry) (stays.noted (by_table old.directories.dirs) shows_it.noted);
+    known = subst (λ (g : Geometry). KnowsIts o.next.0 g.size (said old.list) (shown store.dirty stays.image)
+        old.directories) (sym store_geometry) (stays.known o.next.0 (by_table old.directories.dirs) shows_it.known);
   }
 
   pub growth_silent : (key : Value) → IsSilentIn m old o h key → IsSilentIn m (record old { store = store }) o h key

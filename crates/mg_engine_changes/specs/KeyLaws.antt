@@ -41,8 +41,7 @@ use Rattle.mg_pool_overlays.specs.Needs.{Asked, Sessions}
 use Rattle.mg_records.specs.declared.write.Write.{Write}
 use Rattle.mg_records.specs.declared.write.Write.TheVariants as writes
 use Rattle.mg_batches.specs.Batches.{ChangesOwn}
-use Rattle.mg_row_writes.specs.Storing.{alone_at, row_stored}
-use Rattle.mg_rowcode.specs.Storable.{AreStorable, IsStorable}
+use Rattle.mg_row_writes.specs.Storing.{row_stored}
 use Rattle.mg_seek.specs.Speaking.{IsSpeaker}
 use Rattle.mg_seek.specs.Versions.{IsFirst, wants}
 use Rattle.mg_seek.specs.declared.walk.Placed.{Placed}
@@ -53,22 +52,9 @@ use Rattle.mg_taking_back.specs.Keys.{IsOwn, IsOwnAt, PutsBack, TakesKey, former
 use Rattle.mg_undo.specs.Machine.{was_in}
 use Rattle.mg_undo.specs.declared.changes.Was.{Was}
 use Rattle.mg_undo.specs.declared.changes.Was.TheVariants as wases
-use Rattle.mg_value.specs.declared.shape.Column.{Column}
 use Rattle.mg_value.specs.declared.shape.Shape.{Shape}
 use Rattle.mg_value.specs.declared.value.Value.{Value}
-use Rattle.mg_value.specs.declared.value.Value.TheVariants.{Null}
 use Rattle.mg_works.specs.Works.{Working, written_to}
-
--- ---- the row of a deletion
-
-alone_storable : (key at : ℕ) (value : Value) (columns : List Column) → IsStorable value
-    → AreStorable (alone_at key at value columns)
-alone_storable key at value [] is = tt
-alone_storable key at value (c ∷ cs) is = (on (at == key), alone_storable key (at + 1) value cs is)
-  where
-    on : (b : Bool) → IsStorable (if b then value else Null)
-    on true = is
-    on false = tt
 
 -- ---- a batch of its own
 
@@ -204,7 +190,7 @@ module _ {D : Type 0} (m : Meaning D) (holds : HoldsOne D m) (coded : StoredRows
     stored = row_stored table (writes.Erase c.key);
     replaces = puts.replaces;
     codes = coded shown_there.its table t (writes.Erase c.key) puts.version shown_there.same no_catalog first_columns
-        puts.fits (alone_storable table.shape.key 0 c.key table.shape.columns may) puts.stored;
+        puts.fits puts.stored;
     was = was_its wases.Deleted is;
   })
   puts_at (wases.Row row) is may puts = inr (record {
@@ -212,9 +198,9 @@ module _ {D : Type 0} (m : Meaning D) (holds : HoldsOne D m) (coded : StoredRows
     version = puts.version;
     stored = row_stored table (writes.Insert row);
     replaces = puts.replaces;
-    codes = subst (λ (k : Value). CodesRow packed_coding shown_there.its puts.version row t k (Some row)) may.0
+    codes = subst (λ (k : Value). CodesRow packed_coding shown_there.its puts.version row t k (Some row)) may
         (coded shown_there.its table t (writes.Insert row) puts.version shown_there.same no_catalog first_columns
-        puts.fits may.1 puts.stored);
+        puts.fits puts.stored);
     was = was_its (wases.Row row) is;
   })
 

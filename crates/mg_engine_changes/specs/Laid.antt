@@ -11,10 +11,8 @@ use Rattle.mg_model.specs.History.{Entries, Entry}
 use Rattle.mg_model.specs.Legal.{IsLawful}
 use Rattle.mg_records.specs.Writing.{FitsShape}
 use Rattle.mg_records.specs.declared.write.Write.{Write}
-use Rattle.mg_row_writes.specs.Storing.{row_stored}
 use Rattle.mg_row_writes.specs.declared.before.Way.{Way}
 use Rattle.mg_row_writes.specs.declared.before.Way.TheVariants as ways
-use Rattle.mg_rowcode.specs.Storable.{AreStorable}
 use Rattle.mg_works.specs.Works.{Working, given_to, written_to}
 use Rattle.mg_core.specs.declared.parts.Core.{Core}
 use Rattle.mg_core.specs.Cores.{IsCore}
@@ -32,7 +30,7 @@ use Rattle.mg_version.specs.declared.cell.Version.{Version}
 use Rattle.mg_engine_changes.specs.Refusals.{IsReady}
 use Rattle.mg_engine_steps.specs.Standing.{Standing}
 use Rattle.mg_value.specs.declared.value.Value.{Value}
-use Rattle.mg_engine_changes.specs.Directories.{KeepsNoted}
+use Rattle.mg_engine_changes.specs.Directories.{KeepsKnown}
 use Rattle.mg_engine_changes.specs.Walks.{OthersWalkOn, WalkInto}
 use Rattle.mg_engine_changes.specs.Kept.{made_by}
 use Rattle.mg_engine_changes.specs.Tips.{KeepsTips}
@@ -44,7 +42,7 @@ pub record LeavesPages (size : ℕ) (s : Standing) (t : ℕ) (pages later : Page
   pub tips : KeepsTips size pages later
   pub plain : HasPlainTables size s.state later
   pub others : OthersWalkOn size s pages later t
-  pub noted : KeepsNoted size s.state pages later first key rec
+  pub known : KeepsKnown size s.state pages later first key rec
 
 -- walks go by states and bases alone
 abbrev pub bare_standing : {D : Type 0} → Core D → Standing
@@ -78,7 +76,7 @@ abbrev pub ReadyStays : (D P : Type 0) → Meaning D → Type 0
 ReadyStays D P m = (places : Places P) (old read : Core D) (t : TxNo) (table : Table) (write : Write)
     (before : Before) (version : Version) (o : Opening) (h : Entries) → IsCore m old
     → given_to old.works t.0 table.name ≡ Some table → HasNoted old.works t.0 table → FitsShape table.shape write
-    → AreStorable (row_stored table write) → IsReady m old read t table write before version → StandsFor m old o h
+    → IsReady m old read t table write before version → StandsFor m old o h
     → StaysOver m old read.store o h t.0
 
 -- the first batch of a version of a table that was given, and is kept, leaves the engine with the history: a place was taken
@@ -87,7 +85,7 @@ PlacesStay D P m = (places : Places P) (old read : Core D) (t : TxNo) (table : T
     (before : Before) (version : Version) (store : Pool D FireLinks) (at : RecId) (o : Opening) (h : Entries)
     → IsCore m old → given_to old.works t.0 table.name ≡ Some table → HasNoted old.works t.0 table
     → FitsShape table.shape write
-    → AreStorable (row_stored table write) → IsReady m old read t table write before version
+    → IsReady m old read t table write before version
     → before.way ≡ ways.Make → TakesPlace m read.store store table.pointer.0 at → StandsFor m old o h
     → StaysOver m old store o h t.0
 
@@ -97,7 +95,7 @@ DeadsStay D P m = (places : Places P) (old read : Core D) (t : TxNo) (table : Ta
     (before : Before) (version : Version) (store : Pool D FireLinks) (rec : RecId) (o : Opening) (h : Entries)
     → IsCore m old → given_to old.works t.0 table.name ≡ Some table → HasNoted old.works t.0 table
     → FitsShape table.shape write
-    → AreStorable (row_stored table write) → IsReady m old read t table write before version
+    → IsReady m old read t table write before version
     → before.way ≡ ways.PushOverDead rec → TakesNewestOut m read.store store rec → StandsFor m old o h
     → StaysOver m old store o h t.0
 
@@ -105,8 +103,7 @@ DeadsStay D P m = (places : Places P) (old read : Core D) (t : TxNo) (table : Ta
 abbrev pub RowsGoOn : (D P : Type 0) → Meaning D → (RecId → Way) → Type 0
 RowsGoOn D P m way = (places : Places P) (old new : Core D) (t : TxNo) (table : Table) (write : Write) (rec : RecId)
     (o : Opening) (h : Entries) → IsCore m old → given_to old.works t.0 table.name ≡ Some table
-    → HasNoted old.works t.0 table → FitsShape table.shape write → AreStorable (row_stored table write)
-    → (written : Writes m old new t table write) → written.puts.before.way ≡ way rec → StandsFor m old o h
+    → HasNoted old.works t.0 table → FitsShape table.shape write → (written : Writes m old new t table write) → written.puts.before.way ≡ way rec → StandsFor m old o h
     → GoesOnWith m old new o h (made_by t table write) t.0
 
 -- it was pushed over a committed version, or put in place of the transaction's own

@@ -36,11 +36,10 @@ use Rattle.mg_row_writes.specs.Changing.{TakesNewestOut, TakesPlace}
 use Rattle.mg_row_writes.specs.Bare.{BareLays, BareNew, BareOverDead, IsBare, bare_in}
 use Rattle.mg_row_writes.specs.BareLaws.{bare_lays, bare_there}
 use Rattle.mg_row_writes.specs.Laying.{laid_in}
-use Rattle.mg_row_writes.specs.Storing.{row_stored, written_at}
+use Rattle.mg_row_writes.specs.Storing.{written_at}
 use Rattle.mg_row_writes.specs.declared.before.Before.{Before}
 use Rattle.mg_row_writes.specs.declared.before.Way.{Way}
 use Rattle.mg_row_writes.specs.declared.before.Way.TheVariants as ways
-use Rattle.mg_rowcode.specs.Storable.{AreStorable}
 use Rattle.mg_engine_steps.specs.Writes.{IsSilentAt}
 use Rattle.mg_seek.specs.Readings.{SpeakersOfReadings}
 use Rattle.mg_seek.specs.Speaking.{IsSpeaker}
@@ -76,7 +75,7 @@ use Rattle.mg_engine_steps.specs.Walking.{AreToCome, WalkPlace}
 use Rattle.mg_model.specs.Changes.{KeyedRows, same_name}
 use Rattle.mg_engine_steps.specs.Standing.{Standing}
 use Rattle.mg_directory.specs.Candidates.{Kept, NotesOrDrops, by_table}
-use Rattle.mg_noted.specs.Noted.{HasDirectories}
+use Rattle.mg_engine_meaning.specs.KnownRecords.{KnowsIts}
 use Rattle.mg_sortkey.specs.KeyBytes.{key_bytes}
 use Rattle.mg_engine_meaning.specs.DirectoryLaws.{knows_key}
 use Rattle.mg_engine_changes.specs.Directories.{DirectoriesTell}
@@ -166,8 +165,7 @@ module _ (speakers : SpeakersAreTold) (obstacles : ObstaclesAtKeys) (rows : Rows
     (push_on : PushesGoOn packed_form D FireLinks m) (replace_on : ReplacementsGoOn packed_form D FireLinks m)
     (old : Core D) (t : TxNo) (table : Table) (write : Write) (core : IsCore m old)
     (given : given_to old.works t.0 table.name ≡ Some table) (noted : HasNoted old.works t.0 table)
-    (fits : FitsShape table.shape write)
-    (storable : AreStorable (row_stored table write)) (o : Opening) (h : Entries) (read : Core D) (before : Before)
+    (fits : FitsShape table.shape write) (o : Opening) (h : Entries) (read : Core D) (before : Before)
     (version : Version) (ready : IsReady m old read t table write before version) (stands : StandsFor m old o h) where
   free : IsFree m old ready.free t table write ready.wait ready.rec
   free = ready.is_free
@@ -330,8 +328,8 @@ module _ (speakers : SpeakersAreTold) (obstacles : ObstaclesAtKeys) (rows : Rows
       catalog = mid_shows.catalog ∙ sym stays.keeps.catalog;
       plain_tables = stays.plain;
       no_directory = mid_shows.no_directory;
-      noted = subst (λ (g : Geometry). HasDirectories g.size (said old.list) (shown placed.dirty stays.image)
-          old.directories) (sym geometry) (stays.noted (by_table old.directories.dirs) mid_shows.noted);
+      known = subst (λ (g : Geometry). KnowsIts o.next.0 g.size (said old.list) (shown placed.dirty stays.image)
+          old.directories) (sym geometry) (stays.known o.next.0 (by_table old.directories.dirs) mid_shows.known);
     }
 
     abbrev place_stands : StandsFor m (record old { store = placed }) o h
@@ -377,13 +375,13 @@ module _ (speakers : SpeakersAreTold) (obstacles : ObstaclesAtKeys) (rows : Rows
         × MayReturn table.shape (written_at table write) before.was
     made_was = was_told speakers befores follow may_write coded lists m places unask
         (record old { store = read.store }) since.keeps.pool o h mid_stands mid_shows t begun.continues.1
-        begun.may.work work_is table given write fits storable read.waits since.over before version ready.has.stored
+        begun.may.work work_is table given write fits read.waits since.over before version ready.has.stored
         answered None none_at.0 none_at.2
 
     abbrev its_there : IsShown mid_shows.stands.shows.layout table
     its_there = there speakers befores follow may_write coded lists m places unask
         (record old { store = read.store }) since.keeps.pool o h mid_stands mid_shows t begun.continues.1
-        begun.may.work work_is table given write fits storable read.waits since.over before version ready.has.stored
+        begun.may.work work_is table given write fits read.waits since.over before version ready.has.stored
         answered
 
     silent_there : IsSilentAt packed_form read.store.geometry.size o h (standing_of (record old { store = read.store })
@@ -391,7 +389,7 @@ module _ (speakers : SpeakersAreTold) (obstacles : ObstaclesAtKeys) (rows : Rows
         table.name (written_at table write)
     silent_there = (tells speakers befores follow may_write coded lists m places unask
         (record old { store = read.store }) since.keeps.pool o h mid_stands mid_shows t begun.continues.1
-        begun.may.work work_is table given write fits storable read.waits since.over before version ready.has.stored
+        begun.may.work work_is table given write fits read.waits since.over before version ready.has.stored
         answered None none_at.0).1
 
     taken : HasTaken m o h (standing_of (record old { store = read.store }) mid_stands.numbers mid_stands.tables)
@@ -399,13 +397,13 @@ module _ (speakers : SpeakersAreTold) (obstacles : ObstaclesAtKeys) (rows : Rows
         (sessions_in old.works) its_there.its at table.name (written_at table write) t.0
     taken = spot_taken speakers befores follow may_write coded lists m places unask
         (record old { store = read.store }) since.keeps.pool o h mid_stands mid_shows t begun.continues.1
-        begun.may.work work_is table given write fits storable read.waits since.over before version ready.has.stored
+        begun.may.work work_is table given write fits read.waits since.over before version ready.has.stored
         answered noted holds mid_geometry placed one dirs.one_way begin on behind still silent_there at takes
 
     taken_told : m.tells placed.disk ≡ true
     taken_told = placed_told speakers befores follow may_write coded lists m places unask
         (record old { store = read.store }) since.keeps.pool o h mid_stands mid_shows t begun.continues.1
-        begun.may.work work_is table given write fits storable read.waits since.over before version ready.has.stored
+        begun.may.work work_is table given write fits read.waits since.over before version ready.has.stored
         answered noted holds mid_geometry placed one dirs.one_way begin on behind still silent_there at takes
 
     taken_geometry : placed.geometry ≡ read.store.geometry
@@ -422,7 +420,7 @@ module _ (speakers : SpeakersAreTold) (obstacles : ObstaclesAtKeys) (rows : Rows
       stands = taken.spot_of.stands;
       tips = taken.spot_of.tips;
       plain = taken.spot_of.plain;
-      noted = taken.noted;
+      known = taken.known;
     }
 
     pub place_stays : StaysOver m old placed o h t.0
@@ -439,7 +437,7 @@ module _ (speakers : SpeakersAreTold) (obstacles : ObstaclesAtKeys) (rows : Rows
         × MayReturn table.shape (written_at table write) before.was
     over_was = was_told speakers befores follow may_write coded lists m places unask
         (record old { store = read.store }) since.keeps.pool o h mid_stands mid_shows t begun.continues.1
-        begun.may.work work_is table given write fits storable read.waits since.over before version ready.has.stored
+        begun.may.work work_is table given write fits read.waits since.over before version ready.has.stored
         answered (Some rec) at_record.0 at_record.2
 
     out : HasCleared m o h (standing_of (record old { store = read.store }) mid_stands.numbers mid_stands.tables)
@@ -447,14 +445,14 @@ module _ (speakers : SpeakersAreTold) (obstacles : ObstaclesAtKeys) (rows : Rows
         (sessions_in old.works) rec table.name (written_at table write) t.0
     out = dead_cleared speakers befores follow may_write coded lists m places unask
         (record old { store = read.store }) since.keeps.pool o h mid_stands mid_shows t begun.continues.1
-        begun.may.work work_is table given write fits storable read.waits since.over before version ready.has.stored
+        begun.may.work work_is table given write fits read.waits since.over before version ready.has.stored
         answered noted holds mid_geometry placed one dirs.one_way on behind keep_plain ways_free speak deads rec at_record.0 at_record.2
         way at_record.1 takes
 
     out_told : m.tells placed.disk ≡ true
     out_told = cleared_told speakers befores follow may_write coded lists m places unask
         (record old { store = read.store }) since.keeps.pool o h mid_stands mid_shows t begun.continues.1
-        begun.may.work work_is table given write fits storable read.waits since.over before version ready.has.stored
+        begun.may.work work_is table given write fits read.waits since.over before version ready.has.stored
         answered noted holds mid_geometry placed one dirs.one_way on behind keep_plain ways_free speak deads rec at_record.0 at_record.2
         way at_record.1 takes
 
@@ -472,7 +470,7 @@ module _ (speakers : SpeakersAreTold) (obstacles : ObstaclesAtKeys) (rows : Rows
       stands = out.settled_of.stands;
       tips = out.settled_of.tips;
       plain = out.settled_of.plain;
-      noted = out.noted;
+      known = out.known;
     }
 
     pub dead_stays : StaysOver m old placed o h t.0
@@ -580,7 +578,7 @@ module _ (speakers : SpeakersAreTold) (obstacles : ObstaclesAtKeys) (rows : Rows
       pub pushed : (r : RecId) → before.way ≡ ways.Push r → GoesOnWith m old new o h (made_by t table write) t.0
       pushed r way = let its = facts_at r (ap record_of way) in whole_of (pushed_stands speakers befores follow may_write coded lists m places unask
           (record old { store = read.store }) since.keeps.pool o h mid_stands mid_shows t begun.continues.1
-          begun.may.work work_is table given write fits storable read.waits since.over before
+          begun.may.work work_is table given write fits read.waits since.over before
           version ready.has.stored answered noted holds mid_geometry new.store one
           dirs.one_way begin on behind keep_plain ways_free go push_on replace_on r its.0 its.2 new.directories
           (laid_at (ways.Push r) way).1 (laid_at (ways.Push r) way).0 way its.1)
@@ -589,7 +587,7 @@ module _ (speakers : SpeakersAreTold) (obstacles : ObstaclesAtKeys) (rows : Rows
           → GoesOnWith m old new o h (made_by t table write) t.0
       replaced r way = let its = facts_at r (ap record_of way) in whole_of (replaced_stands speakers befores follow may_write coded lists m places unask
           (record old { store = read.store }) since.keeps.pool o h mid_stands mid_shows t begun.continues.1
-          begun.may.work work_is table given write fits storable read.waits since.over before
+          begun.may.work work_is table given write fits read.waits since.over before
           version ready.has.stored answered noted holds mid_geometry new.store one
           dirs.one_way begin on behind keep_plain ways_free go push_on replace_on r its.0 its.2 new.directories
           (laid_at (ways.Replace r) way).1 (laid_at (ways.Replace r) way).0)
@@ -672,7 +670,7 @@ module _ (speakers : SpeakersAreTold) (obstacles : ObstaclesAtKeys) (rows : Rows
         abbrev place_there : IsShown at_place.spot_of.stands.shows.layout table
         place_there = there speakers befores follow may_write coded lists m places unask
             (record old { store = laid_new.placed }) laid_new.takes.changed.pool o h then_stands then_shows t
-            begun.continues.1 begun.may.work work_is table given write fits storable read.waits since.over
+            begun.continues.1 begun.may.work work_is table given write fits read.waits since.over
             before version ready.has.stored answered
 
         same_its : (its_there still way laid_new.placed laid_new.at laid_new.takes).its ≡ place_there.its
@@ -687,7 +685,7 @@ module _ (speakers : SpeakersAreTold) (obstacles : ObstaclesAtKeys) (rows : Rows
         made_new = over_it laid_new.placed then_stays laid_new.takes.changed.pool then_geometry
             (made_stands speakers befores follow may_write coded lists m places unask
             (record old { store = laid_new.placed }) laid_new.takes.changed.pool o h then_stands then_shows t
-            begun.continues.1 begun.may.work work_is table given write fits storable read.waits since.over before version
+            begun.continues.1 begun.may.work work_is table given write fits read.waits since.over before version
             ready.has.stored answered noted holds (subst IsGeometry (sym then_geometry) mid_geometry) new.store one dirs.one_way begin on
             behind keep_plain go first_on (made_was still way laid_new.placed laid_new.at laid_new.takes) laid_new.at
             at_place.spot_of.silent (at_place.spot_of.placed ∙ ap Some same_its) at_place.spot_of.blank new.directories (laid_at ways.Make way).1
@@ -726,7 +724,7 @@ module _ (speakers : SpeakersAreTold) (obstacles : ObstaclesAtKeys) (rows : Rows
         over_dead = over_it laid_over.cleared over_stays laid_over.takes.changed.pool over_geometry
             (committed_stands speakers befores follow may_write coded lists m places unask
             (record old { store = laid_over.cleared }) laid_over.takes.changed.pool o h over_stands over_shows t
-            begun.continues.1 begun.may.work work_is table given write fits storable read.waits since.over before version
+            begun.continues.1 begun.may.work work_is table given write fits read.waits since.over before version
             ready.has.stored answered noted holds (subst IsGeometry (sym over_geometry) mid_geometry) new.store one dirs.one_way begin on
             behind keep_plain go push_on rec (over_was speak deads rec way laid_over.cleared laid_over.takes)
             over_out.settled_of.speaks over_out.settled_of.settled new.directories

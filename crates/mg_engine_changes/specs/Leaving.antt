@@ -59,7 +59,7 @@ use Rattle.mg_engine_steps.specs.WrittenTablePagesLaws.{firsts_keep_pages, moves
 use Rattle.mg_image_overlays.specs.OwnVersion.{FindsNewest}
 use Rattle.mg_image_overlays.specs.DataKept.{KeepsBits}
 use Rattle.mg_image_overlays.specs.OneLayout.{StandsOneWay}
-use Rattle.mg_engine_changes.specs.DirectoryChanges.{written_keeps}
+use Rattle.mg_engine_changes.specs.RecordChanges.{written_keeps}
 use Rattle.mg_engine_changes.specs.Laid.{LeavesPages}
 use Rattle.mg_engine_changes.specs.Plain.{WritesKeepPlain}
 use Rattle.mg_engine_changes.specs.TipLaws.{moves_keep_tips, pushes_keep_tips, replacements_keep_tips, firsts_keep_tips}
@@ -185,9 +185,9 @@ module _ (one : RowsAreOne packed_coding) (one_way : StandsOneWay packed_form) (
             grown = pushed_reads.grown;
           })) t enters.active (over_shown (written pushes.pushes.at v (Some pushes.newest) stored)
           (stands.shows.reading rec) t codes.its);
-      noted = written_keeps one_way size s.state pool later stands.shows.layout stands.shows.reading
+      known = written_keeps one_way size s.state pool later stands.shows.layout stands.shows.reading
           stands.shows.sound rec (written pushes.pushes.at v (Some pushes.newest) stored ∷ stands.shows.reading rec)
-          pushed_reads table key of codes.keyed;
+          pushed_reads table key of may.no_catalog codes.keyed;
     }
 
   -- ---- it was replaced
@@ -303,9 +303,9 @@ module _ (one : RowsAreOne packed_coding) (one_way : StandsOneWay packed_form) (
           over_shown (written its_new.at v replaces.was.back stored) found_it.older t codes.its counts off
           ∙ sym (ap (shown_by_writers counts) found_it.first ∙ over_shown found_it.newest found_it.older t own_newest
           counts off));
-      noted = written_keeps one_way size s.state pool later stands.shows.layout stands.shows.reading
+      known = written_keeps one_way size s.state pool later stands.shows.layout stands.shows.reading
           stands.shows.sound rec (written its_new.at v replaces.was.back stored ∷ found_it.older) its_new.reads table
-          key of codes.keyed;
+          key of may.no_catalog codes.keyed;
     }
 
 -- ---- it is a record's first one
@@ -413,7 +413,7 @@ module _ (one : RowsAreOne packed_coding) (one_way : StandsOneWay packed_form) (
           grown = first_reading.0.grown;
         })) t enters.active (λ counts off. over_shown (written makes.makes.at v None stored) [] t codes.its counts off
         ∙ sym (ap (shown_by_writers counts) first_reading.2));
-    noted = written_keeps one_way before.geometry.size s.state first_pool (shown after.dirty j) stands.shows.layout
+    known = written_keeps one_way before.geometry.size s.state first_pool (shown after.dirty j) stands.shows.layout
         stands.shows.reading stands.shows.sound rec (written makes.makes.at v None stored ∷ []) first_reading.0 table
-        key of codes.keyed;
+        key of may.no_catalog codes.keyed;
   }

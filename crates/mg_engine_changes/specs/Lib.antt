@@ -31,7 +31,7 @@ pub mod Codes
 pub mod CoreRows
 pub mod CoreRowsLaws
 pub mod Directories
-pub mod DirectoryChanges
+pub mod RecordChanges
 pub mod Dying
 pub mod EngineBacks
 pub mod EngineGivenUp

@@ -6,8 +6,6 @@ use Rattle.mg_model.specs.declared.answer.Answer.TheVariants.{Fine}
 use Rattle.mg_model.specs.declared.table.Table.{Table}
 use Rattle.mg_records.specs.Writing.{FitsShape, event_of}
 use Rattle.mg_records.specs.declared.write.Write.{Write}
-use Rattle.mg_row_writes.specs.Storing.{row_stored}
-use Rattle.mg_rowcode.specs.Storable.{AreStorable}
 use Rattle.mg_works.specs.Works.{given_to}
 use Rattle.mg_core.specs.declared.parts.Core.{Core}
 use Rattle.mg_core.specs.Cores.{IsCore}
@@ -20,5 +18,5 @@ use Rattle.mg_engine_changes.specs.Laid.{HasNoted}
 abbrev pub MadeRowsGive : (D P : Type 0) → Meaning D → Type 0
 MadeRowsGive D P m = (places : Places P) (old new : Core D) (t : TxNo) (table : Table) (write : Write) → IsCore m old
     → given_to old.works t.0 table.name ≡ Some table → HasNoted old.works t.0 table → FitsShape table.shape write
-    → AreStorable (row_stored table write) → Writes m old new t table write
+    → Writes m old new t table write
     → GivesEvent m places old new (event_of t table.name write) Fine None None (Some t.0) None None

@@ -282,8 +282,7 @@ module _ {D P : Type 0} (m : Meaning D) (places : Places P) (old new : Core D) (
 
 pub made_rows_give : {D P : Type 0} (m : Meaning D) → CountsNow m → PushedRowsGoOn D P m → ReplacedRowsGoOn D P m
     → NewRowsGoOn D P m → OverDeadRowsGoOn D P m → MadeRowsGive D P m
-made_rows_give {D} {P} m counts_now pushed replaced new_rows over_dead places old new t table write core given noted fits
-    storable written = made_gives m places old new t table write written since online goes_on
+made_rows_give {D} {P} m counts_now pushed replaced new_rows over_dead places old new t table write core given noted fits written = made_gives m places old new t table write written since online goes_on
   where
     online : old.store.offline ≡ None
     online = written.is_free.has_found.has_passed.has_begun.continues.0
@@ -299,9 +298,9 @@ made_rows_give {D} {P} m counts_now pushed replaced new_rows over_dead places ol
     goes_on o h stands = at written.puts.before.way refl
       where
         at : (way : Way) → written.puts.before.way ≡ way → GoesOnWith m old new o h (made_by t table write) t.0
-        at ways.Make is = new_rows places old new t table write no_record o h core given noted fits storable written is stands
-        at (ways.Push rec) is = pushed places old new t table write rec o h core given noted fits storable written is stands
+        at ways.Make is = new_rows places old new t table write no_record o h core given noted fits written is stands
+        at (ways.Push rec) is = pushed places old new t table write rec o h core given noted fits written is stands
         at (ways.PushOverDead rec) is =
-            over_dead places old new t table write rec o h core given noted fits storable written is stands
+            over_dead places old new t table write rec o h core given noted fits written is stands
         at (ways.Replace rec) is =
-            replaced places old new t table write rec o h core given noted fits storable written is stands
+            replaced places old new t table write rec o h core given noted fits written is stands

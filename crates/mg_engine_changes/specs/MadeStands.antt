@@ -59,8 +59,8 @@ use Rattle.mg_core.specs.Cores.{IsCatalog}
 use Rattle.mg_core.specs.declared.parts.Core.{Core}
 use Rattle.mg_directory.specs.Candidates.{by_table}
 use Rattle.mg_image_overlays.specs.OneLayout.{StandsOneWay}
-use Rattle.mg_noted.specs.Noted.{HasDirectories}
-use Rattle.mg_engine_changes.specs.DirectoryChanges.{joined_noted}
+use Rattle.mg_engine_meaning.specs.KnownRecords.{KnowsIts}
+use Rattle.mg_engine_changes.specs.RecordChanges.{joined_known}
 use Rattle.mg_engine_changes.specs.Joined.{layout_with, stands_with}
 use Rattle.mg_engine_changes.specs.JoinedKept.{others_newest, own_now}
 use Rattle.mg_engine_changes.specs.Remembering.{NotesRows, RowsAreRemembered, rows_kept}
@@ -578,11 +578,11 @@ module _ (one_way : StandsOneWay packed_form) (begins : OpeningsBegin) (seen_law
       plain_tables = subst (λ (g : Geometry). HasPlainTables g.size (said core.list) (shown after.dirty j))
           (sym geometry) made.plain;
       no_directory = shows.no_directory;
-      noted = subst (λ (g : Geometry). HasDirectories g.size (said core.list) (shown after.dirty j) core.directories)
-          (sym geometry) (joined_noted one_way core.store.geometry.size (said core.list) t.0
+      known = subst (λ (g : Geometry). KnowsIts o.next.0 g.size (said core.list) (shown after.dirty j) core.directories)
+          (sym geometry) (joined_known one_way core.store.geometry.size (said core.list) t.0
           (shown core.store.dirty shows.image) (shown after.dirty j) shows.stands.shows.layout
           made.joined.batch.layout shows.stands.shows.reading made.joined.batch.reading made.joined.made
           (stand_at name shape page) shows.stands.shows.sound made.sound made.joined.joins
-          (by_table core.directories.dirs) catalog_bare shows.noted);
+          o.next.0 (by_table core.directories.dirs) catalog_bare shows.known);
     });
   }

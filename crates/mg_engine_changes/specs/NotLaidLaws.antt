@@ -35,11 +35,10 @@ use Rattle.mg_records.specs.declared.write.Write.TheVariants as writes
 use Rattle.mg_row_writes.specs.Bare.{IsBare}
 use Rattle.mg_row_writes.specs.BareLaws.{bare_enters, bare_enters_not}
 use Rattle.mg_row_writes.specs.Changing.{FailsFirst, FailsOver, FailsReplacing}
-use Rattle.mg_row_writes.specs.Laying.{EntersRow, FailsEntering, FailsLay, FailsThen, no_first, no_place, not_cleared, not_entered, not_pushed, not_put_in}
-use Rattle.mg_row_writes.specs.Storing.{row_stored, written_at}
+use Rattle.mg_row_writes.specs.Laying.{FailsEntering, FailsLay, FailsThen, no_first, no_place, not_cleared, not_entered, not_pushed, not_put_in}
+use Rattle.mg_row_writes.specs.Storing.{written_at}
 use Rattle.mg_row_writes.specs.declared.before.Way.{Way}
 use Rattle.mg_row_writes.specs.declared.before.Way.TheVariants as ways
-use Rattle.mg_rowcode.specs.Storable.{AreStorable}
 use Rattle.mg_space.specs.View.{KeepsStore}
 use Rattle.mg_space.specs.ViewLaws.{CountsNow}
 use Rattle.mg_space.specs.declared.fault.SpaceFault.{SpaceFault}
@@ -87,8 +86,7 @@ module _ (retract : RetractTakesKeepBack) {D P : Type 0} (m : Meaning D) (places
     (last : ReadsLast D FireLinks m packed_form) (failing : PageWritesFail D FireLinks m packed_form)
     (old new : Core D) (core : IsCore m old) (counted : AreCounts old) (t : TxNo) (table : Table) (write : Write)
     (given : given_to old.works t.0 table.name ≡ Some table) (kept : HasNoted old.works t.0 table)
-    (fits : FitsShape table.shape write)
-    (storable : AreStorable (row_stored table write)) (refusal : Refusal)
+    (fits : FitsShape table.shape write) (refusal : Refusal)
     (failed : IsNotLaid m old new t table write refusal) where
   begun : HasBegun old failed.ready.is_free.has_found.has_passed.begun t failed.ready.wait
   begun = failed.ready.is_free.has_found.has_passed.has_begun
@@ -181,7 +179,7 @@ module _ (retract : RetractTakesKeepBack) {D P : Type 0} (m : Meaning D) (places
 
   read_over : (o : Opening) (h : Entries) → StandsFor m old o h → StaysOver m old failed.read.store o h t.0
   read_over o h stands = ready_stays places old failed.read t table write failed.before failed.version o h core given
-      kept fits storable failed.ready stands
+      kept fits failed.ready stands
 
   from_way : (way : Way) → failed.before.way ≡ way
       → FailsLay m failed.read.store new.store table way write failed.version failed.fails.fault
@@ -190,7 +188,7 @@ module _ (retract : RetractTakesKeepBack) {D P : Type 0} (m : Meaning D) (places
   from_way ways.Make is (no_first at placed takes own) = from_then placed
       (own_on m failed.read.store placed _ takes)
       (λ o h stands. places_stay places old failed.read t table write failed.before failed.version placed at o h core
-      given kept fits storable failed.ready is takes stands) at
+      given kept fits failed.ready is takes stands) at
       (λ e given_. FailsFirst m e new.store table.pointer.0 at failed.version given_)
       (λ e on_ over first_. at_second e on_ over _ _ first_) own
   from_way (ways.Push rec) is own = from_then failed.read.store read_goes read_over rec
@@ -200,7 +198,7 @@ module _ (retract : RetractTakesKeepBack) {D P : Type 0} (m : Meaning D) (places
   from_way (ways.PushOverDead rec) is (not_pushed cleared takes own) = from_then cleared
       (own_on m failed.read.store cleared _ takes)
       (λ o h stands. deads_stay places old failed.read t table write failed.before failed.version cleared rec o h core
-      given kept fits storable failed.ready is takes stands) rec
+      given kept fits failed.ready is takes stands) rec
       (λ e given_. FailsOver m e new.store rec failed.version given_)
       (λ e on_ over push. at_second e on_ over _ _ push) own
   from_way (ways.Replace rec) is own = from_then failed.read.store read_goes read_over rec

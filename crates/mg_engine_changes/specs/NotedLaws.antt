@@ -177,27 +177,27 @@ table_noted kept old t table given = at (work_of old.works t.0) refl given
 
 pub noted_writes_give : {D P : Type 0} (m : Meaning D) → NotedWorksStay → NotedTablesAreKept → NotesStay D m
     → MadeRowsGive D P m → NotedWritesGive D P m
-noted_writes_give m works_stay kept notes_stay made places old new t table write core given fits storable written =
+noted_writes_give m works_stay kept notes_stay made places old new t table write core given fits written =
     noted_gives works_stay m notes_stay old t table given places new (event_of t table.name write) Fine None None (Some t.0)
     (made places (with_noted t.0 table old) new t table write
     (noted_core works_stay m notes_stay old t table given core)
     (noted_given works_stay m notes_stay old t table given t.0 table.name ∙ given)
-    (table_noted kept old t table given) fits storable written)
+    (table_noted kept old t table given) fits written)
 
 pub noted_fails_give : {D P : Type 0} (m : Meaning D) → NotedWorksStay → NotedTablesAreKept → NotesStay D m
     → IdleGoesOn D FireLinks m packed_form → StandsOn packed_form → QuietHolds packed_form → RefusalsGoOn D P m
     → NotLaidGives D P m → NotedFailsGive D P m
 noted_fails_give m works_stay kept notes_stay idle_goes on quiet refusals not_laid places old new t table write refusal
-    core counted given fits storable (noted_not refused) = refused_gives m places idle_goes on quiet old new t.0
+    core counted given fits (noted_not refused) = refused_gives m places idle_goes on quiet old new t.0
     (event_of t table.name write) (λ o h. answer_active (told o h) t.0 (event_of t table.name write)) refusal None
     (Some t.0) (whose_event t table.name write) (λ o h. active_event o h t table.name write) refused
 noted_fails_give m works_stay kept notes_stay idle_goes on quiet refusals not_laid places old new t table write refusal
-    core counted given fits storable (noted_memory continues ends is) = subst (λ (r : Refusal).
+    core counted given fits (noted_memory continues ends is) = subst (λ (r : Refusal).
     GivesEvent m places old new (event_of t table.name write) (No r) (Some r) None (Some t.0) None None) (sym is)
     (short_gives m places idle_goes on quiet old new t.0 (event_of t table.name write) None (Some t.0)
     (whose_event t table.name write) continues ends)
 noted_fails_give {D} {P} m works_stay kept notes_stay idle_goes on quiet refusals not_laid places old new t table write
-    refusal core counted given fits storable (noted_fails fails) =
+    refusal core counted given fits (noted_fails fails) =
     noted_gives works_stay m notes_stay old t table given places new (event_of t table.name write) (No refusal)
     (Some refusal) None (Some t.0) (at (refusals places mid_ new t table write refusal core_ counted_ given_ fails))
   where
@@ -219,4 +219,4 @@ noted_fails_give {D} {P} m works_stay kept notes_stay idle_goes on quiet refusal
         (Some refusal) None (Some t.0) None None
     at (inl still) = still.gives
     at (inr failed) = (not_laid places mid_ new t table write refusal core_ counted_ given_
-        (table_noted kept old t table given) fits storable failed).0
+        (table_noted kept old t table given) fits failed).0

@@ -186,7 +186,7 @@ module _ {D : Type 0} (m : Meaning D) (core : Core D) (now : List Working) (stay
     catalog = shows.catalog;
     plain_tables = shows.plain_tables;
     no_directory = shows.no_directory;
-    noted = shows.noted;
+    known = shows.known;
   }
   stands_with o h s (Some faults) keeps = record { stands = keeps.stands; left = keeps.left }
 

@@ -1,5 +1,5 @@
 -- Taking back over tables stops at a row of the catalog: the ones before it have gone.
-use Rattle.std.proofs.Common.{◌≡◌, ◌∙◌, ◌∷◌, [], ℕ, List, ap, refl, subst, sym}
+use Rattle.std.proofs.Common.{◌≡◌, ◌∙◌, ◌∷◌, ◌++◌, [], ℕ, List, ap, refl, subst, sym}
 use Rattle.mg_base.specs.Disk.{Meaning}
 use Rattle.mg_base.specs.declared.numbers.TxNo.{TxNo}
 use Rattle.mg_model.specs.History.{Entries, Entry, entry}
@@ -35,7 +35,8 @@ use Rattle.mg_engine_changes.specs.OverGiven.{each_of_table, others_are}
 use Rattle.mg_engine_changes.specs.RowsGiven.{GivenApart, of_catalog, of_others}
 use Rattle.mg_base.specs.Image.{Image}
 use Rattle.mg_core.specs.Cores.{IsCatalog}
-use Rattle.mg_engine_changes.specs.CoreRows.{KnowsStore}
+use Rattle.mg_engine_changes.specs.CoreRows.{HasTakenRows, KnowsStore}
+use Rattle.mg_engine_changes.specs.CoreRowsLaws.{cores_take_rows}
 use Rattle.mg_engine_changes.specs.EngineOver.{IsBackEntry}
 use Rattle.mg_engine_changes.specs.OverEvents.{back_over}
 use Rattle.mg_engine_changes.specs.RowsLost.{HasLost}
@@ -43,7 +44,10 @@ use Rattle.mg_engine_changes.specs.RowsLostLaws.{rows_lost, rows_on}
 use Rattle.mg_engine_changes.specs.Takings.{KnowsCache}
 use Rattle.mg_engine_steps.specs.Midway.{LastsDead}
 use Rattle.mg_engine_steps.specs.MidwayLaws.{lasts_of}
+use Rattle.mg_engine_steps.specs.Again.{again}
+use Rattle.mg_engine_steps.specs.Outs.{RowsGone}
 use Rattle.mg_engine_steps.specs.TablesBack.{RowsGoOn}
+use Rattle.mg_engine_steps.specs.TablesBackLaws.{each_goes}
 use Rattle.mg_image.specs.Form.{packed_form}
 use Rattle.mg_model.specs.declared.table.Table.{Table}
 use Rattle.mg_pool.specs.declared.pool.Pool.{Pool}
@@ -89,6 +93,16 @@ stops_among m t refusal all mid stopped (later_row key keys begun next end takes
       key = later.key;
       fails = later.fails;
     }
+
+-- the keys are those of the rows that were, the one at which it stops, and others
+pub stops_parts : {D : Type 0} (m : Meaning D) (t : ℕ) (refusal : Refusal) (keys : List Value) (mid stopped : Core D)
+    (fails : FailsRows m t refusal keys mid stopped) → (more : List Value)
+    × (keys ≡ (stops_among m t refusal keys mid stopped fails).done
+    ++ ((stops_among m t refusal keys mid stopped fails).key ∷ more))
+stops_parts m t refusal all mid stopped (row_stands key keys begun end fails) = (keys, refl)
+stops_parts m t refusal all mid stopped (later_row key keys begun next end takes more) =
+    let (others, parts) = stops_parts m t refusal keys next end more in
+    (others, ap (λ (ks : List Value). key ∷ ks) parts)
 
 module _ {D P : Type 0} (m : Meaning D) (known : KnownOfBacks D P m) (apart : GivenApart)
     (go_on : RowsGoOn D FireLinks m) (old begun stopped : Core D) (t : TxNo) (point : Point) (undo : Undo)
@@ -156,6 +170,35 @@ module _ {D P : Type 0} (m : Meaning D) (known : KnownOfBacks D P m) (apart : Gi
       mid_catalog : mid.catalog ≡ old.catalog
       mid_catalog = ap (λ (c : Core D). c.catalog) has_taken.same
 
+      lasts_taken : LastsDead m packed_form mid.store.geometry.size o h t.0 old.store mid.store
+          (asked_in (with_work t.0 unasked old.works)) (sessions_in old.works)
+      lasts_taken = subst (λ (n : ℕ). LastsDead m packed_form n o h t.0 old.store mid.store
+          (asked_in (with_work t.0 unasked old.works)) (sessions_in old.works)) (sym has_taken.knows.size_is)
+          (lasts_of m packed_form size o h e t.0 has_taken.rest s old.store mid.store has_taken.image
+          (asked_in (with_work t.0 unasked old.works)) (sessions_in old.works) has_taken.midway.cache)
+
+      pub rows_at : (done : List Value) (at_core : Core D) → TakesRows m t.0 done mid at_core
+          → HasTakenRows m s t.0 done mid at_core has_taken.image
+      rows_at done at_core first = cores_take_rows m known.holds go_on o h e point s old.store
+          (asked_in (with_work t.0 unasked old.works)) (sessions_in old.works) t.0 done mid at_core has_taken.image
+          (opening m known old begun t point undo core has_begun o h stands shows) shows.stands.legal
+          shows.stands.memory (goes m known old begun t point undo core has_begun o h stands shows) lasts_taken
+          (subst IsCatalog (sym mid_catalog) core.catalog)
+          (sym (ap (λ (c : Core D). said c.list) has_taken.same)) (sym (ap (λ (c : Core D). c.live) has_taken.same))
+          (known_store has_taken.knows) (ap (λ (x : Table). x.pointer.0) mid_catalog ∙ has_taken.catalog) first
+
+      -- the rows under these keys have gone, where the transaction counts as dead
+      pub gone_at : (done : List Value) (at_core : Core D) (first : TakesRows m t.0 done mid at_core)
+          → RowsGone packed_form mid.store.geometry.size o (again t.0 has_taken.rest (entry (back_event t point) Fine ∷ h))
+          (said old.list) t.0 done (shown mid.store.dirty has_taken.image)
+          (shown at_core.store.dirty (rows_at done at_core first).image)
+      gone_at done at_core first = (each_goes D FireLinks m known.rows_one (λ bytes n none. none) go_on o h e point s
+          old.store (asked_in (with_work t.0 unasked old.works)) (sessions_in old.works) t.0 has_taken.rest
+          (opening m known old begun t point undo core has_begun o h stands shows) shows.stands.legal
+          shows.stands.memory (goes m known old begun t point undo core has_begun o h stands shows) done mid.store
+          at_core.store has_taken.image (rows_at done at_core first).image (rows_at done at_core first).steps
+          lasts_taken).1
+
       pub lost_at : (done : List Value) (at_core : Core D) → TakesRows m t.0 done mid at_core
           → (j : Image) × HasLost m mid.store.geometry.size o h t.0 s old.store mid at_core has_taken.image j
           (asked_in (with_work t.0 unasked old.works)) (sessions_in old.works)
@@ -164,11 +207,7 @@ module _ {D P : Type 0} (m : Meaning D) (known : KnownOfBacks D P m) (apart : Gi
           (opening m known old begun t point undo core has_begun o h stands shows) shows.stands.legal
           shows.stands.memory (goes m known old begun t point undo core has_begun o h stands shows) done mid at_core
           has_taken.image
-          (subst (λ (n : ℕ). LastsDead m packed_form n o h t.0 old.store mid.store
-          (asked_in (with_work t.0 unasked old.works)) (sessions_in old.works)) (sym has_taken.knows.size_is)
-          (lasts_of m packed_form size o h e t.0 has_taken.rest s old.store mid.store has_taken.image
-          (asked_in (with_work t.0 unasked old.works)) (sessions_in old.works) has_taken.midway.cache))
-          (subst IsCatalog (sym mid_catalog) core.catalog)
+          lasts_taken (subst IsCatalog (sym mid_catalog) core.catalog)
           (sym (ap (λ (c : Core D). said c.list) has_taken.same)) (sym (ap (λ (c : Core D). c.live) has_taken.same))
           (known_store has_taken.knows) (ap (λ (x : Table). x.pointer.0) mid_catalog ∙ has_taken.catalog) first
 

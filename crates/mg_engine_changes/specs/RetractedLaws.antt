@@ -140,7 +140,7 @@ module _ (retract : RetractTakesKeepBack) {D : Type 0} (m : Meaning D)
     catalog = shows.catalog;
     plain_tables = shows.plain_tables;
     no_directory = shows.no_directory;
-    noted = shows.noted;
+    known = shows.known;
   }
   stands_with s (Some faults) keeps = record { stands = keeps.stands; left = keeps.left }
 

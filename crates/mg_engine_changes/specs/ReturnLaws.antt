@@ -3,17 +3,10 @@ use Rattle.std.proofs.Common.{◌≡◌, ◌==◌, ◌+◌, ℕ, zero, suc, Bool
 use Rattle.std.specs.Prelude.{if◌then◌else◌, slice_get}
 use Rattle.mg_engine_meaning.specs.Formers.{IsOfKind}
 use Rattle.mg_image.specs.RecordRules.{allowing_null, erased_from}
-use Rattle.mg_rowcode.specs.Storable.{AreStorable, IsStorable}
 use Rattle.mg_value.specs.Rows.{FitsColumn, FitsKind, RowFits}
 use Rattle.mg_value.specs.declared.shape.Column.{Column}
 use Rattle.mg_value.specs.declared.value.Value.{Value}
 use Rattle.mg_value.specs.declared.value.Value.TheVariants.{Null}
-
--- each is one that the program has
-pub storable_at : (row : List Value) (i : ℕ) → AreStorable row → IsStorable (get_or row i Null)
-storable_at [] i are = tt
-storable_at (v ∷ vs) zero are = are.0
-storable_at (v ∷ vs) (suc i) are = storable_at vs i are.1
 
 -- in the row of a deletion it is of the kind of its column
 pub kind_at : (key at : ℕ) (columns : List Column) (row : List Value) (i : ℕ) → RowFits (erased_from key at columns) row

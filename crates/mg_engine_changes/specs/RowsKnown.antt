@@ -1,8 +1,7 @@
 -- What is known of the rows of a new table where nobody speaks for their keys: each may be written into the catalog, and
 -- no record of a sound image takes one of the keys, whoever counts as in limbo.
-use Rattle.std.proofs.Common.{◌≡◌, ◌≢◌, ◌⊎◌, inl, inr, refl, sym, ap, ◌∙◌, subst, arith, ◌+◌, ◌-◌, ◌<◌, ◌≤◌, ◌^◌, ◌==◌, ℕ, suc, Bool, true, false, List, [], ◌∷◌, ◌++◌, length, Some, lit<}
-use Rattle.std.specs.Int.{w64}
-use Rattle.std.specs.Prelude.{All, FitsSigned, nat_le, pos, replicate, take}
+use Rattle.std.proofs.Common.{◌≡◌, ◌≢◌, ◌⊎◌, inl, inr, refl, sym, ap, ◌∙◌, subst, arith, ◌+◌, ◌-◌, ◌<◌, ◌≤◌, ◌^◌, ◌==◌, ℕ, suc, Bool, true, false, List, [], ◌∷◌, ◌++◌, length, Some}
+use Rattle.std.specs.Prelude.{nat_le, replicate, take}
 use Rattle.std.specs.List.{prefix_len}
 use Rattle.std.proofs.lemmas.Bool.{cases_lt, false≢true}
 use Rattle.mg_base.specs.Checks.{Check, PassesAll, common_checks}
@@ -13,11 +12,9 @@ use Rattle.mg_header.specs.HeaderPage.{AreMarkers, marker_checks}
 use Rattle.mg_header.specs.HeaderPageLaws.{markers_from_passes}
 use Rattle.mg_header.specs.declared.header.TheConstants.{HEADER_KIND}
 use Rattle.mg_rle.specs.Runs.{StandsFor}
-use Rattle.mg_rowcode.specs.Storable.{AreStorable}
 use Rattle.mg_rowcode.specs.Faults.{DecodesTo}
 use Rattle.mg_value.specs.Rows.{RowFits, columns_of, row_bytes}
 use Rattle.mg_value.specs.declared.shape.Column.{Column}
-use Rattle.mg_value.specs.declared.shape.Kind.{Kind}
 use Rattle.mg_value.specs.declared.shape.Kind.TheVariants as kinds
 use Rattle.mg_value.specs.declared.shape.Shape.{Shape}
 use Rattle.mg_value.specs.declared.value.Value.{Value}
@@ -28,8 +25,7 @@ use Rattle.mg_model.specs.declared.table.Table.{Table}
 use Rattle.mg_model.specs.History.{Entries}
 use Rattle.mg_model.specs.Laws.{OpeningsBegin}
 use Rattle.mg_model.specs.Openings.{everyone}
-use Rattle.mg_records.specs.Writing.{IsNewShape, IsOfLength}
-use Rattle.mg_catalog.specs.RowsSaid.{column_row, column_rows, flags_of, length_of, table_row}
+use Rattle.mg_records.specs.Writing.{IsNewShape}
 use Rattle.mg_image.specs.Form.{Pages, Row, packed_coding, packed_form}
 use Rattle.mg_image.specs.Inventory.{header_of, next_of, oldest_active_of, oldest_of}
 use Rattle.mg_image.specs.ReadingLaws.{RowsAreOne}
@@ -40,9 +36,9 @@ use Rattle.mg_image.specs.Tables.{Layout, stands_of, table_at as page_table}
 use Rattle.mg_overlays.specs.Overlays.{left_state}
 use Rattle.mg_ties.specs.CatalogRows.{IsRowOf}
 use Rattle.mg_ties.specs.Filled.{catalog_of}
-use Rattle.mg_table_batch.specs.Filling.{rows_at, table_at}
+use Rattle.mg_table_batch.specs.Filling.{rows_at}
 use Rattle.mg_image_overlays.specs.Growing.{IsTableOf}
-use Rattle.mg_ties.specs.Ties.{HoldsOfRows, IsOneOf}
+use Rattle.mg_ties.specs.Ties.{HoldsOfRows}
 use Rattle.mg_engine_steps.specs.Standing.{ShowsHistory, Standing, Stands}
 use Rattle.mg_engine_steps.specs.Writes.{IsSilentAt}
 use Rattle.mg_engine_steps.specs.Choices.{placed_back, read, takes_too}
@@ -92,68 +88,6 @@ catalog_first = (refl, (refl, (refl, (refl, (refl, (refl, tt))))))
 
 -- ---- the values of its rows
 
-small : (n : ℕ) → n < 2 ^ 32 → FitsSigned w64 (pos n)
-small n below = record { sfits = omega arith }
-
-flags_small : (is_key not_null : Bool) → flags_of is_key not_null < 2 ^ 32
-flags_small true not_null = lit< tt
-flags_small false true = lit< tt
-flags_small false false = lit< tt
-
-length_small : (kind : Kind) → IsOfLength kind → length_of kind < 2 ^ 32
-length_small kinds.Int fits = lit< tt
-length_small (kinds.Text most) fits = let small_ = fits.1 in omega (arith, small_)
-
-own_storable : (name : List ℕ) (shape : Shape) (page : ℕ) → page < 2 ^ 32 → length shape.columns ≤ 64
-    → RowFits catalog_shape.columns (table_row (table_at name shape page))
-    → AreStorable (table_row (table_at name shape page))
-own_storable name shape page below few fits = (
-  (let short = fits.0.kind in omega (arith, short)),
-  (tt, (small page below, (small (length shape.columns) (omega (arith, few)), (small 0 (lit< tt), (small 0 (lit< tt), tt))))),
-)
-
-column_storable : (name : List ℕ) (key place : ℕ) (c : Column) → IsOfLength c.kind → c.since ≡ 1 → place < 2 ^ 32
-    → RowFits catalog_shape.columns (column_row name key place c) → AreStorable (column_row name key place c)
-column_storable name key place c fits_length first below fits = (
-  (let short = fits.0.kind in omega (arith, short)),
-  (
-    (let short = fits.1.0.kind in omega (arith, short)),
-    (
-      small (length_of c.kind) (length_small c.kind fits_length),
-      (
-        small (flags_of (place == key) c.not_null) (flags_small (place == key) c.not_null),
-        (small c.since (omega (arith, first)), (small place below, tt)),
-      ),
-    ),
-  ),
-)
-
-first_of : {X : Type 0} (P : X → Type 0) (x : X) (xs : List X) → All P (x ∷ xs) → P x
-first_of P x xs all = all 0 x (omega arith)
-
-rest_of : {X : Type 0} (P : X → Type 0) (x : X) (xs : List X) → All P (x ∷ xs) → All P xs
-rest_of P x xs all k d below = all (suc k) d (omega (arith, below))
-
-columns_storable : (name : List ℕ) (key place : ℕ) (columns : List Column)
-    → All (λ (c : Column). IsOfLength c.kind) columns → All (λ (c : Column). c.since ≡ 1) columns
-    → place + length columns ≤ 64 → (row : Row) → IsOneOf (column_rows name key place columns) row
-    → RowFits catalog_shape.columns row → AreStorable row
-columns_storable name key place [] lengths firsts few row is fits = absurd is
-columns_storable name key place (c ∷ cs) lengths firsts few row (inl same) fits = subst AreStorable (sym same)
-    (column_storable name key place c (first_of (λ (d : Column). IsOfLength d.kind) c cs lengths)
-    (first_of (λ (d : Column). d.since ≡ 1) c cs firsts) (omega (arith, few))
-    (subst (RowFits catalog_shape.columns) same fits))
-columns_storable name key place (c ∷ cs) lengths firsts few row (inr more) fits = columns_storable name key (place + 1)
-    cs (rest_of (λ (d : Column). IsOfLength d.kind) c cs lengths) (rest_of (λ (d : Column). d.since ≡ 1) c cs firsts)
-    (omega (arith, few)) row more fits
-
-rows_storable : (name : List ℕ) (shape : Shape) (page : ℕ) → IsNewShape shape → page < 2 ^ 32 → (row : Row)
-    → IsOneOf (rows_at name shape page) row → RowFits catalog_shape.columns row → AreStorable row
-rows_storable name shape page new below row (inl same) fits = subst AreStorable (sym same)
-    (own_storable name shape page below new.most (subst (RowFits catalog_shape.columns) same fits))
-rows_storable name shape page new below row (inr more) fits = columns_storable name shape.key 0 shape.columns
-    new.lengths new.first (let most = new.most in omega (arith, most)) row more fits
-
 -- ---- on the pages of an engine
 
 passes_back : (first rest : List Check) → PassesAll (first ++ rest) → PassesAll rest
@@ -197,7 +131,7 @@ module _ (one : RowsAreOne packed_coding) (begins : OpeningsBegin) (size : ℕ) 
             (sym stores.stored.format) (subst (λ (d : Bool). DecodesTo (columns_for (catalog_of pages) d) 1 v.body row)
             (sym stores.stored.deleted) (decodes catalog_shape.columns v.body row catalog_first stores.stored.row.fits
             stores.stored.row.packed));
-        storable = rows_storable name shape page new below row is stores.stored.row.fits;
+        storable = stores.stored.row.storable;
         erased = λ gone. absurd (false≢true (sym stores.stored.deleted ∙ gone));
         keyed = refl;
       },

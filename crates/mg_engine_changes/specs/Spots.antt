@@ -56,8 +56,8 @@ use Rattle.mg_engine_meaning.specs.PlainTables.{HasPlainTables}
 use Rattle.mg_engine_meaning.specs.Standings.{HasTips}
 use Rattle.mg_engine_steps.specs.WrittenTablePagesLaws.{then_keeps, to as grown_layout}
 use Rattle.mg_image_overlays.specs.OneLayout.{StandsOneWay}
-use Rattle.mg_engine_changes.specs.Directories.{StaysNoted}
-use Rattle.mg_engine_changes.specs.DirectoryChanges.{grown_keeps}
+use Rattle.mg_engine_changes.specs.Directories.{StaysKnown}
+use Rattle.mg_engine_changes.specs.RecordChanges.{grown_keeps}
 use Rattle.mg_engine_changes.specs.PlainLaws.{grown_keeps_plain}
 use Rattle.mg_engine_changes.specs.TipLaws.{growth_keeps_tips}
 use Rattle.mg_engine_changes.specs.Tips.{KeepsTips}
@@ -87,7 +87,7 @@ pub record HasTaken {D : Type 0} (m : Meaning D) (o : Opening) (h : Entries) (s 
   pub lasts : LastsOn m packed_form o h after asked session
   pub leaves : LeavesSince m before.disk after.disk (HoldsAcknowledged packed_form before.dirty.size o h)
   pub others : OthersWalkOn before.geometry.size s was (shown after.dirty image) t
-  pub noted : StaysNoted before.geometry.size s.state was (shown after.dirty image)
+  pub known : StaysKnown before.geometry.size s.state was (shown after.dirty image)
   pub spot_of : HasSpotOf after.geometry.size o h s list (shown after.dirty image) table at name key
 
 -- ---- it was taken
@@ -264,7 +264,7 @@ module _ (one : RowsAreOne packed_coding) (one_way : StandsOneWay packed_form) (
     lasts = place.stays.lasts;
     leaves = place.stays.leaves;
     others = spot_others;
-    noted = grown_keeps one_way size s.state pool later shows.layout stood.layout shows.reading shows.sound stood.sound
+    known = grown_keeps one_way size s.state pool later shows.layout stood.layout shows.reading shows.sound stood.sound
         stood.grown.stays;
     spot_of = subst (λ (g_ : Geometry). HasSpotOf g_.size o h s list (shown after.dirty j) table at name key)
         (sym geometry) spot_now;

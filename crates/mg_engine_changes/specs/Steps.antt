@@ -7,8 +7,7 @@ use Rattle.mg_model.specs.declared.refusal.Refusal.{Refusal}
 use Rattle.mg_model.specs.declared.table.Table.{Table}
 use Rattle.mg_records.specs.Writing.{FitsShape, event_of}
 use Rattle.mg_records.specs.declared.write.Write.{Write}
-use Rattle.mg_row_writes.specs.Storing.{row_stored, written_at}
-use Rattle.mg_rowcode.specs.Storable.{AreStorable}
+use Rattle.mg_row_writes.specs.Storing.{written_at}
 use Rattle.mg_works.specs.Works.{AreApart, MayBeGiven, given_to}
 use Rattle.mg_core.specs.declared.parts.Core.{Core}
 use Rattle.mg_core.specs.Cores.{IsCore}
@@ -25,8 +24,7 @@ use Rattle.mg_engine_changes.specs.Retracted.{works_retracted}
 abbrev pub NotLaidGives : (D P : Type 0) → Meaning D → Type 0
 NotLaidGives D P m = (places : Places P) (old new : Core D) (t : TxNo) (table : Table) (write : Write)
     (refusal : Refusal) → IsCore m old → AreCounts old → given_to old.works t.0 table.name ≡ Some table
-    → HasNoted old.works t.0 table → FitsShape table.shape write → AreStorable (row_stored table write)
-    → (failed : IsNotLaid m old new t table write refusal)
+    → HasNoted old.works t.0 table → FitsShape table.shape write → (failed : IsNotLaid m old new t table write refusal)
     → GivesEvent m places old new (event_of t table.name write) (No refusal) (Some refusal) None (Some t.0) None None
     × (new.works ≡ works_retracted t.0 table.pointer.0 (written_at table write) failed.before.was old.works)
 
@@ -34,15 +32,14 @@ NotLaidGives D P m = (places : Places P) (old new : Core D) (t : TxNo) (table : 
 abbrev pub NotedWritesGive : (D P : Type 0) → Meaning D → Type 0
 NotedWritesGive D P m = (places : Places P) (old new : Core D) (t : TxNo) (table : Table) (write : Write)
     → IsCore m old → given_to old.works t.0 table.name ≡ Some table → FitsShape table.shape write
-    → AreStorable (row_stored table write) → WritesNoted m old new t table write
+    → WritesNoted m old new t table write
     → GivesEvent m places old new (event_of t table.name write) Fine None None (Some t.0) None None
 
 -- and one that is not gives it with the refusal
 abbrev pub NotedFailsGive : (D P : Type 0) → Meaning D → Type 0
 NotedFailsGive D P m = (places : Places P) (old new : Core D) (t : TxNo) (table : Table) (write : Write)
     (refusal : Refusal) → IsCore m old → AreCounts old → given_to old.works t.0 table.name ≡ Some table
-    → FitsShape table.shape write → AreStorable (row_stored table write)
-    → FailsNoted m old new t table write refusal
+    → FitsShape table.shape write → FailsNoted m old new t table write refusal
     → GivesEvent m places old new (event_of t table.name write) (No refusal) (Some refusal) None (Some t.0) None None
 
 -- each session has one active transaction at most, as it was
@@ -53,5 +50,5 @@ NotedWritesApart D m = (old new : Core D) (t : TxNo) (table : Table) (write : Wr
 abbrev pub NotedFailsApart : (D P : Type 0) → Meaning D → Type 0
 NotedFailsApart D P m = (places : Places P) (old new : Core D) (t : TxNo) (table : Table) (write : Write)
     (refusal : Refusal) → IsCore m old → AreCounts old → given_to old.works t.0 table.name ≡ Some table
-    → FitsShape table.shape write → AreStorable (row_stored table write) → MayBeGiven table → AreApart old.works
+    → FitsShape table.shape write → MayBeGiven table → AreApart old.works
     → FailsNoted m old new t table write refusal → AreApart new.works

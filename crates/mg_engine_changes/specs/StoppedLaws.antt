@@ -11,10 +11,10 @@ use Rattle.mg_base.specs.declared.transaction.TxState.{TxState}
 use Rattle.mg_base.specs.declared.transaction.TxState.TheVariants.{Active, Dead}
 use Rattle.mg_chain.specs.Chains.{takes_version}
 use Rattle.mg_directory.specs.Candidates.{by_table}
-use Rattle.mg_noted.specs.Noted.{HasDirectories}
-use Rattle.mg_engine_meaning.specs.RollbackEnds.{noted_by_dead}
+use Rattle.mg_engine_meaning.specs.KnownRecords.{KnowsIts}
+use Rattle.mg_engine_meaning.specs.RollbackEnds.{known_by_dead}
 use Rattle.mg_engine_steps.specs.Outs.{GoOrStay}
-use Rattle.mg_engine_changes.specs.DirectoryChanges.{lost_noted}
+use Rattle.mg_engine_changes.specs.RecordChanges.{lost_lone, lost_noted}
 use Rattle.mg_engine_changes.specs.EngineGivenUp.{states_now}
 use Rattle.mg_engine_changes.specs.RowsLostLaws.{walks_past}
 use Rattle.mg_engine_steps.specs.GoesOnLaws.{pool_is_kept}
@@ -344,13 +344,13 @@ module _ {D P : Type 0} (m : Meaning D) (places : Places P) (known : KnownOfBack
                 (subst (λ (x : Pages). IsSoundBy packed_form size (left_state chosen (said new.list)) x layout q)
                 same_shown sound)) its of
 
-    -- directories are complete after the keys, also with the transaction dead
-    noted_mid : HasDirectories size (said new.list) (shown some.mid.store.dirty some.taken.image) old.directories
-    noted_mid = noted_by_dead known.rows_one known.one_way size (said old.list) (said new.list)
+    -- what is known of the records after the keys, also with the transaction dead
+    known_mid : KnowsIts o.next.0 size (said new.list) (shown some.mid.store.dirty some.taken.image) old.directories
+    known_mid = known_by_dead known.rows_one known.one_way o.next.0 size (said old.list) (said new.list)
         (shown some.mid.store.dirty some.taken.image) t.0 has_begun.continues.1 ends_now.here ends_now.others
         (lists_mid.plain shows.plain_tables) some.taken.midway.pages.layout some.taken.midway.pages.reading
         some.taken.midway.pages.sound old.directories
-        (lists_mid.noted (by_table old.directories.dirs) shows.noted)
+        (lists_mid.known o.next.0 (by_table old.directories.dirs) shows.known)
 
     dead_beside : left_state (all_but t.0) (said old.list) ≡ left_state everyone (said new.list)
     dead_beside = ap (λ (c : ℕ → Bool). left_state c (said old.list)) (fun_ext (λ u. and_true (not (u == t.0))))
@@ -364,18 +364,28 @@ module _ {D P : Type 0} (m : Meaning D) (places : Places P) (known : KnownOfBack
         (all_but t.0) some.taken.midway.cache.kept
 
     -- and so after the rows
-    noted_now : HasDirectories size (said new.list) (shown stopped.store.dirty image) old.directories
-    noted_now b q sound =
-        let lost : (mid_kept.layout ≡ b) × GoOrStay t.0 mid_kept.reading q = some.lost.loses mid_kept.layout b
-        mid_kept.reading q mid_kept.sound
+    lost_by : (b : Layout) (q : Reading)
+        → IsSoundBy packed_form size (left_state everyone (said new.list)) (shown stopped.store.dirty image) b q
+        → (mid_kept.layout ≡ b) × GoOrStay t.0 mid_kept.reading q
+    lost_by b q sound = some.lost.loses mid_kept.layout b mid_kept.reading q mid_kept.sound
         (subst (λ (x : ℕ → TxState). IsSoundBy packed_form size x (shown stops.at.store.dirty image) b q) (sym dead_beside)
         (subst (λ (x : Pages). IsSoundBy packed_form size (left_state everyone (said new.list)) x b q) same_shown
-        sound)) in
-        lost_noted (left_state everyone (said new.list)) (left_state everyone (said new.list))
-        (shown some.mid.store.dirty some.taken.image) (shown stopped.store.dirty image) mid_kept.layout b
-        mid_kept.reading q t.0 (by_table old.directories.dirs) lost.0 lost.1 (noted_mid mid_kept.layout
-        mid_kept.reading (subst (λ (x : ℕ → TxState). IsSoundBy packed_form size x
-        (shown some.mid.store.dirty some.taken.image) mid_kept.layout mid_kept.reading) dead_beside mid_kept.sound))
+        sound))
+
+    mid_sound : IsSoundBy packed_form size (left_state everyone (said new.list))
+        (shown some.mid.store.dirty some.taken.image) mid_kept.layout mid_kept.reading
+    mid_sound = subst (λ (x : ℕ → TxState). IsSoundBy packed_form size x (shown some.mid.store.dirty some.taken.image)
+        mid_kept.layout mid_kept.reading) dead_beside mid_kept.sound
+
+    known_now : KnowsIts o.next.0 size (said new.list) (shown stopped.store.dirty image) old.directories
+    known_now = record {
+      noted = λ b q sound. lost_noted (left_state everyone (said new.list)) (left_state everyone (said new.list))
+          (shown some.mid.store.dirty some.taken.image) (shown stopped.store.dirty image) mid_kept.layout b
+          mid_kept.reading q t.0 (by_table old.directories.dirs) (lost_by b q sound).0 (lost_by b q sound).1
+          (known_mid.noted mid_kept.layout mid_kept.reading mid_sound);
+      lone = λ b q sound. lost_lone o.next.0 mid_kept.layout b mid_kept.reading q t.0 (lost_by b q sound).0
+          (lost_by b q sound).1 (known_mid.lone mid_kept.layout mid_kept.reading mid_sound);
+    }
 
     tips_mid : HasTips old.list size (shown some.mid.store.dirty some.taken.image)
     tips_mid = known.lists old.list old.list size (shown old.store.dirty shows.image)
@@ -396,8 +406,8 @@ module _ {D P : Type 0} (m : Meaning D) (places : Places P) (known : KnownOfBack
       plain_tables = subst (λ (n : ℕ). HasPlainTables n (said new.list) (shown stopped.store.dirty image))
           (sym its_end.size) plain_now;
       no_directory = shows.no_directory;
-      noted = subst (λ (n : ℕ). HasDirectories n (said new.list) (shown stopped.store.dirty image) old.directories)
-          (sym its_end.size) noted_now;
+      known = subst (λ (n : ℕ). KnowsIts o.next.0 n (said new.list) (shown stopped.store.dirty image) old.directories)
+          (sym its_end.size) known_now;
     }
 
     abbrev stands_now : StandsFor m now o (rolling t.0 ∷ entry (back_event t point) (No refusal) ∷ h)

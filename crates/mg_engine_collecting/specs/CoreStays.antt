@@ -29,7 +29,7 @@ use Rattle.mg_model.specs.History.{Entries}
 use Rattle.mg_model.specs.Laws.{OpeningsBegin}
 use Rattle.mg_model.specs.declared.opening.Opening.{Opening}
 use Rattle.mg_model.specs.declared.table.Table.{Table}
-use Rattle.mg_noted.specs.Noted.{HasDirectories}
+use Rattle.mg_engine_meaning.specs.KnownRecords.{KnowsIts}
 use Rattle.mg_pool.specs.Pool.{shown}
 use Rattle.mg_pool.specs.declared.pool.Pool.{Pool}
 use Rattle.mg_space.specs.declared.links.FireLinks.{FireLinks}
@@ -83,8 +83,8 @@ module _ (one : RowsAreOne packed_coding) (one_way : StandsOneWay packed_form) (
         catalog = shows.catalog ∙ sym shows_then.keeps.catalog;
         plain_tables = shows_then.shows.plain;
         no_directory = shows.no_directory;
-        noted = subst (λ (g : Geometry). HasDirectories g.size (said old.list) (shown now.dirty shows_then.image)
-            old.directories) (sym same) (shows_then.noted (by_table old.directories.dirs) shows.noted);
+        known = subst (λ (g : Geometry). KnowsIts o.next.0 g.size (said old.list) (shown now.dirty shows_then.image)
+            old.directories) (sym same) (shows_then.known o.next.0 (by_table old.directories.dirs) shows.known);
       }
 
       stays_over : (t : ℕ) → StaysOver m old now o h t

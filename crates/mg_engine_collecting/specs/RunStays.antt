@@ -7,7 +7,7 @@ use Rattle.mg_base.specs.declared.geometry.Geometry.{Geometry}
 use Rattle.mg_base.specs.declared.numbers.RecId.{RecId}
 use Rattle.mg_base.specs.declared.transaction.TxState.{TxState}
 use Rattle.mg_collecting.specs.Steps.{CollectStep, Steps, drops_unneeded, one_more, reads_on, starts, takes_dead, takes_erased}
-use Rattle.mg_engine_changes.specs.Directories.{StaysNoted}
+use Rattle.mg_engine_changes.specs.Directories.{StaysKnown}
 use Rattle.mg_engine_changes.specs.MadeLaws.{StoreOn, on_then, own_on, read_on}
 use Rattle.mg_engine_changes.specs.Plain.{WritesKeepPlain}
 use Rattle.mg_engine_changes.specs.TipLaws.{tips_then}
@@ -125,7 +125,7 @@ module _ (one : RowsAreOne packed_coding) (one_way : StandsOneWay packed_form) (
       left = lasts.left;
     };
     others = λ t u ne works x after rows comes. comes;
-    noted = λ dirs noted. noted;
+    known = λ from dirs was_known. was_known;
     shows = record { stands = stands; tips = tips; plain = plain; here = here };
   }
 
@@ -141,8 +141,8 @@ module _ (one : RowsAreOne packed_coding) (one_way : StandsOneWay packed_form) (
         leaves = leaves_then now after gone.goes.size stays.leaves read.1;
         others = λ t. subst (λ (d : DirtyPages). OthersWalkOn size s was (shown d stays.image) t) (sym keeps.dirty)
             (stays.others t);
-        noted = subst (λ (d : DirtyPages). StaysNoted size s.state was (shown d stays.image)) (sym keeps.dirty)
-            stays.noted;
+        known = subst (λ (d : DirtyPages). StaysKnown size s.state was (shown d stays.image)) (sym keeps.dirty)
+            stays.known;
         shows = subst (λ (g : Geometry). ShowsRecord g.size o h s list (shown after.dirty stays.image) rec table)
             (sym keeps.geometry) (subst (λ (d : DirtyPages). ShowsRecord now.geometry.size o h s list
             (shown d stays.image) rec table) (sym keeps.dirty) stays.shows);
@@ -171,8 +171,8 @@ module _ (one : RowsAreOne packed_coding) (one_way : StandsOneWay packed_form) (
         others = λ t u ne works x from rows comes. subst (λ (g : Geometry). OthersWalkOn g.size s
             (shown now.dirty stays.image) (shown after.dirty next.image) t) gone.goes.geometry (next.others t) u ne works
             x from rows (stays.others t u ne works x from rows comes);
-        noted = λ dirs noted. subst (λ (g : Geometry). StaysNoted g.size s.state (shown now.dirty stays.image)
-            (shown after.dirty next.image)) gone.goes.geometry next.noted dirs (stays.noted dirs noted);
+        known = λ from dirs was_known. subst (λ (g : Geometry). StaysKnown g.size s.state (shown now.dirty stays.image)
+            (shown after.dirty next.image)) gone.goes.geometry next.known from dirs (stays.known from dirs was_known);
         shows = next.shows;
       }
         where

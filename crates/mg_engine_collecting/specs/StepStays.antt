@@ -17,8 +17,8 @@ use Rattle.mg_collect_ties.specs.Chains.{IsNext}
 use Rattle.mg_collect_ties.specs.DropTies.{DropsPages, HasCommittedAt, drop_pages, next, put_view as dropped_put}
 use Rattle.mg_collect_ties.specs.TakeTies.{taken_pages, turned_view as taken_turned}
 use Rattle.mg_collecting.specs.Steps.{CollectStep, DropsUnneeded, drops_unneeded, takes_dead, takes_erased}
-use Rattle.mg_engine_changes.specs.Directories.{StaysNoted}
-use Rattle.mg_engine_changes.specs.DirectoryChanges.{back_noted}
+use Rattle.mg_engine_changes.specs.Directories.{StaysKnown}
+use Rattle.mg_engine_changes.specs.RecordChanges.{back_known}
 use Rattle.mg_engine_changes.specs.OwnerLaws.{committed_only}
 use Rattle.mg_engine_changes.specs.Plain.{WritesKeepPlain}
 use Rattle.mg_engine_changes.specs.TipLaws.{two_tips}
@@ -120,7 +120,7 @@ pub record StepStays {D : Type 0} (m : Meaning D) (o : Opening) (h : Entries) (s
   pub lasts : LastsOn m packed_form o h after asked session
   pub leaves : LeavesSince m before.disk after.disk (HoldsAcknowledged packed_form before.dirty.size o h)
   pub others : (t : ℕ) → OthersWalkOn before.geometry.size s was (shown after.dirty image) t
-  pub noted : StaysNoted before.geometry.size s.state was (shown after.dirty image)
+  pub known : StaysKnown before.geometry.size s.state was (shown after.dirty image)
   pub shows : ShowsRecord after.geometry.size o h s list (shown after.dirty image) rec table
 
 -- ---- lists of stands
@@ -334,8 +334,8 @@ module _ (one : RowsAreOne packed_coding) (one_way : StandsOneWay packed_form) (
       leaves = cache.1;
       others = λ t. same_walk_on one size s pool later shows.layout shows.reading rec left shows.sound it.reads it.fronts
           t (λ u ne works. it.shown_same u works);
-      noted = back_noted one_way size s.state pool later shows.layout shows.reading shows.sound rec left it.reads table
-          here.of it.some it.says.keyed;
+      known = back_known one_way size s.state pool later shows.layout shows.reading shows.sound rec left it.reads table
+          here.of here.no_catalog it.some it.says.keyed;
       shows = subst (λ (g : Geometry). ShowsRecord g.size o h s list later rec table) (sym same) (record {
         stands = stands_later;
         tips = lists list list size pool later refl refl keeps_tips.next keeps_tips.tips tips;

@@ -21,7 +21,6 @@ use Rattle.mg_image.specs.Form.{Pages, packed_form}
 use Rattle.mg_image.specs.Inventory.{header_of}
 use Rattle.mg_lasting.specs.Crashes.{HoldsAcknowledged}
 use Rattle.mg_lasting.specs.Lasting.{LastsOn}
-use Rattle.mg_noted.specs.Noted.{HasDirectories}
 use Rattle.mg_pool.specs.Dirty.{DirtyPages, MarksAll, content_of, is_dirty, is_marked}
 use Rattle.mg_pool.specs.Pool.{shown}
 use Rattle.mg_pool.specs.declared.pool.Pool.{Pool}
@@ -37,6 +36,7 @@ use Rattle.mg_works.specs.WorksLaws.{with_its}
 use Rattle.mg_core.specs.declared.parts.Core.{Core}
 use Rattle.mg_core.specs.Committing.{Asks, AsksCommit, HasSession}
 use Rattle.mg_core.specs.Cores.{IsCore, RefusesCall}
+use Rattle.mg_engine_meaning.specs.KnownRecords.{KnowsIts}
 use Rattle.mg_engine_meaning.specs.FrameLaws.{apart_from, commits_of, kept_all, kept_with, keeps_of, one_session, quiet_of, same_sessions, sessions_of, store_stands, tables_of, works_with}
 use Rattle.mg_engine_meaning.specs.Frames.{MayAnswer, StoreGoesOn, WorksStay}
 use Rattle.mg_engine_meaning.specs.PlainTables.{HasPlainTables}
@@ -141,8 +141,8 @@ module _ {D P : Type 0} (m : Meaning D) (places : Places P)
         plain_tables = subst (λ (pages : Pages). HasPlainTables old.store.geometry.size (said old.list) pages)
             (pages_same shows.image) shows.plain_tables;
         no_directory = shows.no_directory;
-        noted = subst (λ (pages : Pages). HasDirectories old.store.geometry.size (said old.list) pages old.directories)
-            (pages_same shows.image) shows.noted;
+        known = subst (λ (pages : Pages). KnowsIts o.next.0 old.store.geometry.size (said old.list) pages old.directories)
+            (pages_same shows.image) shows.known;
       }
 
   given_same : (u : ℕ) (name : List ℕ)

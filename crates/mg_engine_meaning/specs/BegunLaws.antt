@@ -45,7 +45,6 @@ use Rattle.mg_lasting.specs.Lasting.{LastsOn}
 use Rattle.mg_lasting.specs.PoolLaws.{HoldsOne}
 use Rattle.mg_image_overlays.specs.OneLayout.{StandsOneWay}
 use Rattle.mg_noted.specs.ComingLaws.{stayed_has}
-use Rattle.mg_noted.specs.Noted.{HasDirectories}
 use Rattle.mg_directory.specs.Candidates.{by_table}
 use Rattle.mg_overlays.specs.BatchLaws.{good_of_pool}
 use Rattle.mg_overlays.specs.Overlays.{left_by, left_state}
@@ -67,6 +66,8 @@ use Rattle.mg_undo.specs.Machine.{undo_of}
 use Rattle.mg_works.specs.Works.{Working, begun, given_by, given_to, has_session, work_of}
 use Rattle.mg_core.specs.declared.parts.Core.{Core}
 use Rattle.mg_core.specs.Cores.{IsCore}
+use Rattle.mg_engine_meaning.specs.KnownRecords.{KnowsIts}
+use Rattle.mg_engine_meaning.specs.LoneRowsLaws.{lone_stay}
 use Rattle.mg_engine_meaning.specs.FrameLaws.{apart_from, commits_of, keeps_of, quiet_of, tables_of}
 use Rattle.mg_engine_meaning.specs.Frames.{GivesEvent, StoreGoesOn}
 use Rattle.mg_engine_meaning.specs.PlainLaws.{plain_tables_by}
@@ -412,13 +413,20 @@ module _ {D P : Type 0} (m : Meaning D) (places : Places P) (known : KnownOfDraw
           there;
     })
 
-    -- ---- directories are complete still
+    -- ---- its records read as they did
 
-    noted_now : HasDirectories size (said list) later old.directories
-    noted_now = stayed_has packed_form known.one_way size (left_state everyone (said old.list))
-        (left_state everyone (said list)) pages later (by_table old.directories.dirs) shows.stands.shows.layout
-        shows.stands.shows.reading shows.stands.shows.sound
-        (sound_then everyone shows.stands.shows.layout shows.stands.shows.reading shows.stands.shows.sound) shows.noted
+    known_now : KnowsIts o.next.0 size (said list) later old.directories
+    known_now = record {
+      noted = stayed_has packed_form known.one_way size (left_state everyone (said old.list))
+          (left_state everyone (said list)) pages later (by_table old.directories.dirs) shows.stands.shows.layout
+          shows.stands.shows.reading shows.stands.shows.sound
+          (sound_then everyone shows.stands.shows.layout shows.stands.shows.reading shows.stands.shows.sound)
+          shows.known.noted;
+      lone = lone_stay known.one_way o.next.0 size (said old.list) (said list) pages later shows.stands.shows.layout
+          shows.stands.shows.reading shows.stands.shows.sound
+          (sound_then everyone shows.stands.shows.layout shows.stands.shows.reading shows.stands.shows.sound)
+          shows.known.lone;
+    }
 
     -- ---- the engine
 
@@ -439,8 +447,8 @@ module _ {D P : Type 0} (m : Meaning D) (places : Places P) (known : KnownOfDraw
           shows.stands.shows.sound);
       plain_tables = subst (λ (g : Geometry). HasPlainTables g.size (said list) later) (sym goes.geometry) plain_now;
       no_directory = shows.no_directory;
-      noted = subst (λ (g : Geometry). HasDirectories g.size (said list) later old.directories) (sym goes.geometry)
-          noted_now;
+      known = subst (λ (g : Geometry). KnowsIts o.next.0 g.size (said list) later old.directories) (sym goes.geometry)
+          known_now;
     }
 
     stands_by : StandsFor m now o (e ∷ h)

@@ -17,7 +17,6 @@ use Rattle.mg_model.specs.Legal.{IsLawful}
 use Rattle.mg_engine_steps.specs.Idle.{IdleGoesOn}
 use Rattle.mg_image.specs.Form.{Pages, packed_form}
 use Rattle.mg_lasting.specs.Changing.{QuietHolds}
-use Rattle.mg_noted.specs.Noted.{HasDirectories}
 use Rattle.mg_pool.specs.Pool.{shown}
 use Rattle.mg_records.specs.Crashing.{LeavesQuietly}
 use Rattle.mg_records.specs.Keeping.{Reads}
@@ -31,6 +30,7 @@ use Rattle.mg_txlist.specs.declared.list.TipPage.{TipPage}
 use Rattle.mg_txlist.specs.declared.list.TxList.{TxList}
 use Rattle.mg_ties.specs.CommitTies.{ShowsTip}
 use Rattle.mg_core.specs.declared.parts.Core.{Core}
+use Rattle.mg_engine_meaning.specs.KnownRecords.{KnowsIts}
 use Rattle.mg_engine_meaning.specs.Frames.{GivesEvent}
 use Rattle.mg_engine_meaning.specs.PlainTables.{HasPlainTables}
 use Rattle.mg_engine_meaning.specs.Meaning.{AreNext, ComesTo, Places, means, place_at}
@@ -165,8 +165,8 @@ module _ {D P : Type 0} (m : Meaning D) (places : Places P) (core : Core D) (lis
         plain_tables = subst (λ (state : ℕ → TxState). HasPlainTables core.store.geometry.size state
             (shown core.store.dirty shows.image)) state_same shows.plain_tables;
         no_directory = shows.no_directory;
-        noted = subst (λ (state : ℕ → TxState). HasDirectories core.store.geometry.size state
-            (shown core.store.dirty shows.image) core.directories) state_same shows.noted;
+        known = subst (λ (state : ℕ → TxState). KnowsIts o.next.0 core.store.geometry.size state
+            (shown core.store.dirty shows.image) core.directories) state_same shows.known;
       }
       by (Some faults) keeps = record {
         stands = subst (λ (s : Standing). Stands packed_form core.store.geometry.size o h s None)

@@ -41,7 +41,6 @@ use Rattle.mg_model.specs.NumberLaws.{undrawn_is_dead}
 use Rattle.mg_model.specs.Openings.{everyone}
 use Rattle.mg_image_overlays.specs.OneLayout.{StandsOneWay}
 use Rattle.mg_noted.specs.ComingLaws.{stayed_has}
-use Rattle.mg_noted.specs.Noted.{HasDirectories}
 use Rattle.mg_directory.specs.Candidates.{by_table}
 use Rattle.mg_overlays.specs.Overlays.{left_by as counts_by, left_state}
 use Rattle.mg_pool.specs.Batch.{content_in, one_page, orders_of}
@@ -63,6 +62,8 @@ use Rattle.mg_waits.specs.Waits.{NowWaits, edges_in}
 use Rattle.mg_works.specs.Works.{AreApart, without_work}
 use Rattle.mg_core.specs.declared.parts.Core.{Core}
 use Rattle.mg_core.specs.Cores.{Continues, IsCore}
+use Rattle.mg_engine_meaning.specs.KnownRecords.{KnowsIts}
+use Rattle.mg_engine_meaning.specs.LoneRowsLaws.{lone_stay}
 use Rattle.mg_engine_meaning.specs.FrameLaws.{keeps_of}
 use Rattle.mg_engine_meaning.specs.PlainTables.{HasPlainTables}
 use Rattle.mg_engine_meaning.specs.PlainLaws.{plain_tables_by}
@@ -386,14 +387,20 @@ module _ {D P : Type 0} (m : Meaning D) (places : Places P) (holds : HoldsOne D 
               (later_sound chosen)).0 there;
         })
 
-    -- ---- directories are complete still
+    -- ---- its records read as they did
 
-    noted_now : HasDirectories old.store.geometry.size (said list) (shown store.dirty j) old.directories
-    noted_now = stayed_has packed_form one_way old.store.geometry.size (left_state everyone (said old.list))
-        (left_state everyone (said list)) (shown old.store.dirty shows.image) (shown store.dirty j)
-        (by_table old.directories.dirs) shows.stands.shows.layout shows.stands.shows.reading
-        shows.stands.shows.sound
-        (sound_on shows.stands.shows.layout shows.stands.shows.reading shows.stands.shows.sound) shows.noted
+    known_now : KnowsIts o.next.0 old.store.geometry.size (said list) (shown store.dirty j) old.directories
+    known_now = record {
+      noted = stayed_has packed_form one_way old.store.geometry.size (left_state everyone (said old.list))
+          (left_state everyone (said list)) (shown old.store.dirty shows.image) (shown store.dirty j)
+          (by_table old.directories.dirs) shows.stands.shows.layout shows.stands.shows.reading
+          shows.stands.shows.sound
+          (sound_on shows.stands.shows.layout shows.stands.shows.reading shows.stands.shows.sound) shows.known.noted;
+      lone = lone_stay one_way o.next.0 old.store.geometry.size (said old.list) (said list)
+          (shown old.store.dirty shows.image) (shown store.dirty j) shows.stands.shows.layout
+          shows.stands.shows.reading shows.stands.shows.sound
+          (sound_on shows.stands.shows.layout shows.stands.shows.reading shows.stands.shows.sound) shows.known.lone;
+    }
 
     -- ---- what the engine shows
 
@@ -412,8 +419,8 @@ module _ {D P : Type 0} (m : Meaning D) (places : Places P) (holds : HoldsOne D 
       plain_tables = subst (λ (g : Geometry). HasPlainTables g.size (said list) (shown store.dirty j))
           (sym goes.goes.geometry) none_indexed;
       no_directory = shows.no_directory;
-      noted = subst (λ (g : Geometry). HasDirectories g.size (said list) (shown store.dirty j) old.directories)
-          (sym goes.goes.geometry) noted_now;
+      known = subst (λ (g : Geometry). KnowsIts o.next.0 g.size (said list) (shown store.dirty j) old.directories)
+          (sym goes.goes.geometry) known_now;
     }
 
     pub leaves_with : LeavesHistory m old.store.disk store.disk packed_form old.store.dirty.size o h

@@ -23,7 +23,7 @@ use Rattle.mg_engine_steps.specs.Batches.{ReadsLast}
 use Rattle.mg_noted.specs.ComingLaws.{noted_by}
 use Rattle.mg_noted.specs.EnoughLaws.{enough_in_layout}
 use Rattle.mg_noted.specs.MadeLaws.{built_in_layout}
-use Rattle.mg_noted.specs.Noted.{AreNoted, HasDirectories, IsNoted}
+use Rattle.mg_noted.specs.Noted.{AreNoted, IsNoted}
 use Rattle.mg_noting.specs.Making.{IsBuiltOf}
 use Rattle.mg_noting.specs.MakingLaws.{was_or_is_made}
 use Rattle.mg_overlays.specs.Overlays.{left_state}
@@ -35,6 +35,7 @@ use Rattle.mg_sortkey.specs.KeyBytes.{key_bytes}
 use Rattle.mg_txlist.specs.TxList.{said}
 use Rattle.mg_value.specs.declared.value.Value.{Value}
 use Rattle.mg_space.specs.declared.links.FireLinks.{FireLinks}
+use Rattle.mg_engine_meaning.specs.KnownRecords.{KnowsIts}
 use Rattle.mg_engine_meaning.specs.Meaning.{Places}
 use Rattle.mg_engine_meaning.specs.ReadLaws.{reads_stand}
 use Rattle.mg_engine_meaning.specs.Standings.{Numbers, ShowsIt, StandsFor, StandsWhile, Tables, standing_of}
@@ -59,7 +60,7 @@ module _ {D : Type 0} (m : Meaning D) (old : Core D) (o : Opening) (h : Entries)
           (enough_in_layout of_readings walked old.store.geometry.size (left_state everyone (said old.list))
           (shown old.store.dirty shows.image) shows.stands.shows.layout shows.stands.shows.reading
           shows.stands.shows.sound there.its table there.stands there.same (said old.list) old.live key dir
-          (shows.noted shows.stands.shows.layout shows.stands.shows.reading shows.stands.shows.sound
+          (shows.known.noted shows.stands.shows.layout shows.stands.shows.reading shows.stands.shows.sound
           table.pointer.0 dir its))
 
   -- once one may have been made, all are complete
@@ -74,7 +75,7 @@ module _ {D : Type 0} (m : Meaning D) (old : Core D) (o : Opening) (h : Entries)
             × IsBuiltOf (said old.list) old.live (shown old.store.dirty shows.image) table dir)
             → IsNoted (facts_by (left_state everyone (said old.list)) (shown old.store.dirty shows.image)
             shows.stands.shows.layout) shows.stands.shows.reading first dir
-        at (inl was) = shows.noted shows.stands.shows.layout shows.stands.shows.reading shows.stands.shows.sound
+        at (inl was) = shows.known.noted shows.stands.shows.layout shows.stands.shows.reading shows.stands.shows.sound
             first dir was
         at (inr (same, built)) = subst (λ (n : ℕ). IsNoted (facts_by (left_state everyone (said old.list))
             (shown old.store.dirty shows.image) shows.stands.shows.layout) shows.stands.shows.reading n dir)
@@ -83,11 +84,14 @@ module _ {D : Type 0} (m : Meaning D) (old : Core D) (o : Opening) (h : Entries)
             (shown old.store.dirty shows.image) shows.stands.shows.layout shows.stands.shows.reading
             shows.stands.shows.sound there.its table there.stands there.same (said old.list) old.live dir built)
 
-    pub noted_made : HasDirectories old.store.geometry.size (said old.list) (shown old.store.dirty shows.image)
+    pub known_made : KnowsIts o.next.0 old.store.geometry.size (said old.list) (shown old.store.dirty shows.image)
         new.directories
-    noted_made = noted_by packed_form one_way old.store.geometry.size (left_state everyone (said old.list))
-        (shown old.store.dirty shows.image) (by_table new.directories.dirs) shows.stands.shows.layout
-        shows.stands.shows.reading shows.stands.shows.sound each_noted
+    known_made = record {
+      noted = noted_by packed_form one_way old.store.geometry.size (left_state everyone (said old.list))
+          (shown old.store.dirty shows.image) (by_table new.directories.dirs) shows.stands.shows.layout
+          shows.stands.shows.reading shows.stands.shows.sound each_noted;
+      lone = shows.known.lone;
+    }
 
     -- the catalog has none, unless that is the table
     pub no_directory_made : table.pointer.0 ≢ old.catalog.pointer.0
@@ -114,10 +118,10 @@ module _ {D : Type 0} (m : Meaning D) (old : Core D) (o : Opening) (h : Entries)
 pub directories_stand : {D : Type 0} (m : Meaning D) (core : Core D) (kept : Kept) (o : Opening) (h : Entries)
     → (stands : StandsFor m core o h)
     → ((shows : ShowsIt m core o h (standing_of core stands.numbers stands.tables))
-    → HasDirectories core.store.geometry.size (said core.list) (shown core.store.dirty shows.image) kept
+    → KnowsIts o.next.0 core.store.geometry.size (said core.list) (shown core.store.dirty shows.image) kept
     × (by_table kept.dirs core.catalog.pointer.0 ≡ None))
     → StandsFor m (record core { directories = kept }) o h
-directories_stand m core kept o h stands noted = record {
+directories_stand m core kept o h stands known = record {
   tells = stands.tells;
   grows = stands.grows;
   bases = stands.bases;
@@ -140,8 +144,8 @@ directories_stand m core kept o h stands noted = record {
       tips = shows.tips;
       catalog = shows.catalog;
       plain_tables = shows.plain_tables;
-      no_directory = (noted shows).1;
-      noted = (noted shows).0;
+      no_directory = (known shows).1;
+      known = (known shows).0;
     }
     by (Some faults) keeps = record { stands = keeps.stands; left = keeps.left }
 
@@ -157,7 +161,7 @@ made_stands {D} m places begin last walked of_readings one_way old new table mak
     (reads_stand m places begin last (record old { directories = new.directories }) new.store makes.keeps old.damage
     old.shortages o h
     (directories_stand m old new.directories o h stands (λ shows. (
-      noted_made m old o h stands.numbers stands.tables shows walked table (there shows) of_readings one_way new makes
+      known_made m old o h stands.numbers stands.tables shows walked table (there shows) of_readings one_way new makes
           stands.tells,
       no_directory_made m old o h stands.numbers stands.tables shows walked table (there shows) of_readings one_way new
           makes stands.tells off,

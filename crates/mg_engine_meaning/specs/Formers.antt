@@ -2,7 +2,6 @@
 use Rattle.std.specs.Prelude.{◌≡◌, Option, None, Some, slice_get}
 use Rattle.mg_model.specs.declared.table.Table.{Table}
 use Rattle.mg_model.specs.Catalog.{key_of}
-use Rattle.mg_rowcode.specs.Storable.{AreStorable, IsStorable}
 use Rattle.mg_undo.specs.declared.changes.Was.{Was}
 use Rattle.mg_undo.specs.declared.changes.Was.TheVariants as wases
 use Rattle.mg_value.specs.Rows.{FitsKind, RowFits}
@@ -15,12 +14,11 @@ abbrev pub IsOfKind : Option Column → Value → Type 0
 IsOfKind None value = Unit {0}
 IsOfKind (Some column) value = FitsKind column.kind value
 
--- a row that comes back has the key and fits the columns, a deletion's key is of the kind of its column; both are made of
--- values that the program has
+-- a row that comes back has the key and fits the columns, a deletion's key is of the kind of its column
 abbrev pub MayReturn : Shape → Value → Was → Type 0
 MayReturn shape key wases.Untouched = Unit {0}
-MayReturn shape key wases.Deleted = IsStorable key × IsOfKind (slice_get shape.columns shape.key) key
-MayReturn shape key (wases.Row row) = (key_of shape row ≡ key) × AreStorable row × RowFits shape.columns row
+MayReturn shape key wases.Deleted = IsOfKind (slice_get shape.columns shape.key) key
+MayReturn shape key (wases.Row row) = (key_of shape row ≡ key) × RowFits shape.columns row
 
 -- to a table that is kept
 abbrev pub MayReturnTo : Option Table → Value → Was → Type 0

@@ -328,7 +328,7 @@ module _ {D P : Type 0} (m : Meaning D) (places : Places P) (begin : OpeningsBeg
       catalog = shows.catalog;
       plain_tables = shows.plain_tables;
       no_directory = shows.no_directory;
-      noted = shows.noted;
+      known = shows.known;
     }
 
   pub keep_stands : (o : Opening) (h : Entries) → StandsFor m old o h

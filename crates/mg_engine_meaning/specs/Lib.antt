@@ -28,12 +28,15 @@ pub mod Freeing
 pub mod GrowingLaws
 pub mod KeepLaws
 pub mod KeptLaws
+pub mod KnownRecords
 pub mod LawfulBases
 pub mod LawfulLaws
 pub mod Laws
 pub mod Leaving
 pub mod LookLaws
 pub mod Looks
+pub mod LoneRows
+pub mod LoneRowsLaws
 pub mod Meaning
 pub mod MemoryCallLaws
 pub mod NewBeginLaws

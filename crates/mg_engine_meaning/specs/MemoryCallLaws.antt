@@ -172,7 +172,7 @@ module _ {D P : Type 0} (m : Meaning D) (places : Places P) (old : Core D) (wait
               catalog = shows.catalog;
               plain_tables = shows.plain_tables;
               no_directory = shows.no_directory;
-              noted = shows.noted;
+              known = shows.known;
             }
         by (Some faults) keeps = record {
           stands = on old.store.geometry.size o h e (standing_of old stands.numbers stands.tables)

@@ -11,6 +11,8 @@ use Rattle.mg_core.specs.declared.parts.Core.{Core}
 use Rattle.mg_database.specs.Loading.{SaysPages}
 use Rattle.mg_database.specs.Tested.{IsTested}
 use Rattle.mg_directory.specs.Candidates.{Kept, by_table}
+use Rattle.mg_engine_meaning.specs.LoneRows.{HasLoneRows}
+use Rattle.mg_engine_meaning.specs.LoneRowsLaws.{lone_first}
 use Rattle.mg_engine_meaning.specs.PlainTables.{EachIsPlain, HasPlainTables}
 use Rattle.mg_engine_meaning.specs.Standings.{AreSeen, KeepsWritten, ShowsIt, StandsFor, StandsWhile, standing_of}
 use Rattle.mg_header.specs.HeaderPage.{reading}
@@ -163,9 +165,13 @@ module _ {D : Type 0} (m : Meaning D) (disk : D) (limit : ℕ) (core : Core D) (
     catalog = ap (λ (p : PageNo). p.0) its_head.catalog_is;
     plain_tables = plain_tables;
     no_directory = ap (λ (k : Kept). by_table k.dirs core.catalog.pointer.0) opens.idle.directories;
-    noted = subst (HasDirectories its_size (said core.list) its_pages) (sym opens.idle.directories)
-        (none_has packed_form its_size (left_state everyone (said core.list)) its_pages (by_table [])
-        (λ first. refl));
+    known = record {
+      noted = subst (HasDirectories its_size (said core.list) its_pages) (sym opens.idle.directories)
+          (none_has packed_form its_size (left_state everyone (said core.list)) its_pages (by_table [])
+          (λ first. refl));
+      lone = subst (λ (from : ℕ). HasLoneRows from its_size (said core.list) its_pages)
+          (sym opened_is.next ∙ it.begins.next) (lone_first its_size (said core.list) its_pages);
+    };
   }
 
   given : AreSeen core.works (λ t name. None)

@@ -16,7 +16,6 @@ use Rattle.mg_engine_steps.specs.Batches.{ReadsLast}
 use Rattle.mg_image.specs.Form.{packed_form}
 use Rattle.mg_image.specs.Inventory.{header_of}
 use Rattle.mg_lasting.specs.Crashes.{HoldsAcknowledged, LeavesSince}
-use Rattle.mg_noted.specs.Noted.{HasDirectories}
 use Rattle.mg_pool.specs.Dirty.{DirtyPages, is_marked}
 use Rattle.mg_pool.specs.Pool.{shown}
 use Rattle.mg_pool.specs.declared.pool.Pool.{Pool}
@@ -27,6 +26,7 @@ use Rattle.mg_space.specs.declared.links.FireLinks.{FireLinks}
 use Rattle.mg_engine_steps.specs.Standing.{Standing, Stands}
 use Rattle.mg_txlist.specs.TxList.{said}
 use Rattle.mg_core.specs.declared.parts.Core.{Core}
+use Rattle.mg_engine_meaning.specs.KnownRecords.{KnowsIts}
 use Rattle.mg_engine_meaning.specs.FrameLaws.{commits_of, keeps_of, quiet_of, tables_of}
 use Rattle.mg_engine_meaning.specs.Frames.{MayAnswer, StoreGoesOn}
 use Rattle.mg_engine_meaning.specs.PlainTables.{HasPlainTables}
@@ -80,9 +80,9 @@ module _ {D P : Type 0} (m : Meaning D) (places : Places P) (begin : OpeningsBeg
         (sym keeps.geometry) (subst (λ (d : DirtyPages). HasPlainTables old.store.geometry.size (said old.list)
         (shown d shows.image)) (sym keeps.dirty) shows.plain_tables);
     no_directory = shows.no_directory;
-    noted = subst (λ (g : Geometry). HasDirectories g.size (said old.list) (shown store.dirty shows.image)
-        old.directories) (sym keeps.geometry) (subst (λ (d : DirtyPages). HasDirectories old.store.geometry.size
-        (said old.list) (shown d shows.image) old.directories) (sym keeps.dirty) shows.noted);
+    known = subst (λ (g : Geometry). KnowsIts o.next.0 g.size (said old.list) (shown store.dirty shows.image)
+        old.directories) (sym keeps.geometry) (subst (λ (d : DirtyPages). KnowsIts o.next.0 old.store.geometry.size
+        (said old.list) (shown d shows.image) old.directories) (sym keeps.dirty) shows.known);
   }
 
   -- once a page write has failed

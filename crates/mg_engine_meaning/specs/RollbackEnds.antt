@@ -13,6 +13,8 @@ use Rattle.mg_base.specs.declared.transaction.TxState.TheVariants.{Active, Dead}
 use Rattle.mg_chain.specs.Chains.{takes_version}
 use Rattle.mg_engine_steps.specs.Known.{IsShown, seen_is_shown}
 use Rattle.mg_engine_steps.specs.ListShows.{lists_stay}
+use Rattle.mg_engine_meaning.specs.KnownRecords.{KnowsIts}
+use Rattle.mg_engine_meaning.specs.LoneRowsLaws.{lone_beside}
 use Rattle.mg_engine_meaning.specs.Falling.{Falls, read_alike}
 use Rattle.mg_engine_meaning.specs.Rollbacks.{RollbacksGoOn}
 use Rattle.mg_engine_steps.specs.Idle.{IdleGoesOn}
@@ -171,6 +173,18 @@ noted_by_dead one ways size state now pages t active dead others plain a r first
     (plain.agree everyone (without t everyone) a b r s first second))
     (by_table kept.dirs) (by_table kept.dirs) noted (λ first_ dir is. is) b s second)
 
+-- and rows of the catalog stand alone
+pub known_by_dead : RowsAreOne packed_coding → StandsOneWay packed_form → (from size : ℕ) (state now : ℕ → TxState)
+    (pages : Pages) (t : ℕ) → state t ≡ Active → now t ≡ Dead → ((u : ℕ) → u ≢ t → now u ≡ state u)
+    → HasPlainTables size state pages → (a : Layout) (r : Reading)
+    → IsSoundBy packed_form size (left_state everyone state) pages a r → (kept : Kept)
+    → KnowsIts from size state pages kept → KnowsIts from size now pages kept
+known_by_dead one ways from size state now pages t active dead others plain a r first kept known = record {
+  noted = noted_by_dead one ways size state now pages t active dead others plain a r first kept known.noted;
+  lone = λ b s second. lone_beside one from size (left_state everyone state) (left_state everyone now) pages a b r s
+      first second (known.lone a r first);
+}
+
 -- ---- the engine
 
 module _ {D P : Type 0} (m : Meaning D) (places : Places P) (one : RowsAreOne packed_coding)
@@ -221,9 +235,9 @@ module _ {D P : Type 0} (m : Meaning D) (places : Places P) (one : RowsAreOne pa
         plain_tables = none_by_dead old.store.geometry.size (said old.list) (said list)
             (shown old.store.dirty shows.image) t.0 continues.1 ends.here ends.others shows.plain_tables;
         no_directory = shows.no_directory;
-        noted = noted_by_dead one ways old.store.geometry.size (said old.list) (said list)
+        known = known_by_dead one ways o.next.0 old.store.geometry.size (said old.list) (said list)
             (shown old.store.dirty shows.image) t.0 continues.1 ends.here ends.others shows.plain_tables
-            shows.stands.shows.layout shows.stands.shows.reading shows.stands.shows.sound old.directories shows.noted;
+            shows.stands.shows.layout shows.stands.shows.reading shows.stands.shows.sound old.directories shows.known;
       }
 
   shows_of : (o : Opening) (h : Entries) (stands : StandsFor m old o h)

@@ -14,7 +14,6 @@ use Rattle.mg_model.specs.declared.event.Mode.{Mode}
 use Rattle.mg_model.specs.declared.opening.Opening.{Opening}
 use Rattle.mg_model.specs.declared.table.Table.{Table}
 use Rattle.mg_model.specs.History.{Entries}
-use Rattle.mg_noted.specs.Noted.{HasDirectories}
 use Rattle.mg_pool.specs.Pool.{shown}
 use Rattle.mg_pool_overlays.specs.Needs.{Asked, Sessions}
 use Rattle.mg_engine_steps.specs.Standing.{Standing, Stands}
@@ -26,6 +25,7 @@ use Rattle.mg_undo.specs.declared.changes.Change.{Change}
 use Rattle.mg_waits.specs.Waits.{edges_in}
 use Rattle.mg_works.specs.Works.{Working, given_to, work_of, written_in}
 use Rattle.mg_core.specs.declared.parts.Core.{Core}
+use Rattle.mg_engine_meaning.specs.KnownRecords.{KnowsIts}
 use Rattle.mg_engine_meaning.specs.Formers.{MayReturnTo}
 use Rattle.mg_engine_meaning.specs.LawfulBases.{BasesAreLawful}
 use Rattle.mg_engine_meaning.specs.PlainTables.{HasPlainTables}
@@ -122,7 +122,8 @@ HasTips list size pages = (t : ℕ) → t < next_of pages → ShowsTip list size
 
 -- The pages of an engine that stands for a history: they show it, every crash leaves what it has to, the
 -- transaction list has the pages of all transactions, the catalog begins where the header says, each table is plain,
--- the catalog has no directory of keys, and each table that has one has each of its records there, under its key.
+-- the catalog has no directory of keys, each table that has one has each of its records there, under its key, and rows
+-- of the catalog that have come since the history began stand alone in their records.
 pub record ShowsIt {D : Type 0} (m : Meaning D) (core : Core D) (o : Opening) (h : Entries)
     (s : Standing) : Type 0 where
   pub image : Image
@@ -134,7 +135,7 @@ pub record ShowsIt {D : Type 0} (m : Meaning D) (core : Core D) (o : Opening) (h
   pub catalog : core.catalog.pointer.0 ≡ (header_of (shown core.store.dirty image)).catalog.0
   pub plain_tables : HasPlainTables core.store.geometry.size (said core.list) (shown core.store.dirty image)
   pub no_directory : by_table core.directories.dirs core.catalog.pointer.0 ≡ None
-  pub noted : HasDirectories core.store.geometry.size (said core.list) (shown core.store.dirty image) core.directories
+  pub known : KnowsIts o.next.0 core.store.geometry.size (said core.list) (shown core.store.dirty image) core.directories
 
 -- Once a page write has failed: memory is what the history says, and every crash leaves what it has to.
 pub record KeepsIt {D : Type 0} (m : Meaning D) (core : Core D) (o : Opening) (h : Entries)

@@ -42,7 +42,6 @@ use Rattle.mg_space.specs.declared.links.FireLinks.{FireLinks}
 use Rattle.mg_chain.specs.Chains.{takes_version}
 use Rattle.mg_image.specs.Sound.{IsSoundBy}
 use Rattle.mg_model.specs.Openings.{everyone}
-use Rattle.mg_noted.specs.Noted.{HasDirectories}
 use Rattle.mg_overlays.specs.Overlays.{left_state}
 use Rattle.mg_seek.specs.Walks.{records_behind, rows_shown}
 use Rattle.mg_snap.specs.Live.{State as Bases}
@@ -53,6 +52,7 @@ use Rattle.mg_core.specs.declared.parts.Core.{Core}
 use Rattle.mg_core.specs.Committing.{FailsOne, HasSession, StepsCommit}
 use Rattle.mg_core.specs.Committing.{WritesOne as CoreWritesOne}
 use Rattle.mg_core.specs.Cores.{IsCore, RefusesCall}
+use Rattle.mg_engine_meaning.specs.KnownRecords.{KnowsIts}
 use Rattle.mg_engine_meaning.specs.FrameLaws.{commits_of, keeps_of, quiet_of, sessions_of, store_stands, tables_of, works_same}
 use Rattle.mg_engine_meaning.specs.Frames.{MayAnswer, StoreGoesOn}
 use Rattle.mg_engine_meaning.specs.PlainTables.{HasPlainTables}
@@ -191,10 +191,10 @@ module _ {D P : Type 0} (m : Meaning D) (places : Places P) (holds : HoldsOne D 
               (subst (λ (pages : Pages). HasPlainTables old.store.geometry.size (said old.list) pages) same
               shows.plain_tables);
           no_directory = shows.no_directory;
-          noted = subst (λ (g : Geometry). HasDirectories g.size (said old.list) (shown store.dirty j) old.directories)
+          known = subst (λ (g : Geometry). KnowsIts o.next.0 g.size (said old.list) (shown store.dirty j) old.directories)
               (sym run.geometry)
-              (subst (λ (pages : Pages). HasDirectories old.store.geometry.size (said old.list) pages old.directories)
-              same shows.noted);
+              (subst (λ (pages : Pages). KnowsIts o.next.0 old.store.geometry.size (said old.list) pages old.directories)
+              same shows.known);
         },
         all.2,
       )

@@ -1,5 +1,5 @@
 -- A row that is taken out in a batch of its own takes no page, and it is refused for want of pages nowhere.
-use Rattle.std.proofs.Common.{ℕ, List}
+use Rattle.std.proofs.Common.{◌≡◌, ◌∙◌, sym, ℕ, List}
 use Rattle.mg_base.specs.Disk.{Meaning}
 use Rattle.mg_base.specs.Image.{Image}
 use Rattle.mg_base.specs.declared.numbers.RecId.{RecId}
@@ -10,7 +10,7 @@ use Rattle.mg_model.specs.declared.table.Table.{Table}
 use Rattle.mg_pool.specs.Batch.{Changed}
 use Rattle.mg_pool.specs.declared.batch.BatchPage.{BatchPage}
 use Rattle.mg_pool.specs.declared.pool.Pool.{Pool}
-use Rattle.mg_batches.specs.Batches.{nothing_yet}
+use Rattle.mg_batches.specs.Batches.{not_lawful, nothing_yet}
 use Rattle.mg_seek.specs.Speaking.{RefusesTableRows}
 use Rattle.mg_seek.specs.Versions.{wants}
 use Rattle.mg_seek.specs.declared.whose.Wanted.TheVariants.{Living}
@@ -22,7 +22,7 @@ use Rattle.mg_space.specs.declared.fault.SpaceFault.TheVariants as faults
 use Rattle.mg_space.specs.declared.links.FireLinks.{FireLinks}
 use Rattle.mg_table_unmaking.specs.Rows.{FailsRowOut, RefusesAloneAt, RefusesRow, TakesRowOut, alone_nobody, alone_other, alone_unread, alone_unspoken, row_not_found, row_not_out}
 use Rattle.mg_value.specs.declared.value.Value.{Value}
-use Rattle.mg_free_pages.specs.CellRefusals.{IsOther, memory_other, other_there, since_read, still_lawful}
+use Rattle.mg_free_pages.specs.CellRefusals.{IsOther, other_there, since_read, still_lawful}
 use Rattle.mg_free_pages.specs.FreePages.{IsNotFull}
 use Rattle.mg_free_pages.specs.RowSpending.{BatchLaws}
 use Rattle.mg_free_pages.specs.Spending.{IsNotShort, SpendsAtMost, ToldAreHeld}
@@ -52,15 +52,19 @@ module _ {D : Type 0} (m : Meaning D) (holds : ToldAreHeld m) (laws : BatchLaws 
   chain_other store pages view rec (faults.Damaged it) refused limit is = absurd cc
   chain_other store pages view rec (faults.Pool fault) refused limit is = absurd cc
 
+  told_other : (fault : SpaceFault) → fault ≡ faults.Damaged not_lawful → IsOther fault
+  told_other fault told limit full = let both : faults.Full limit ≡ faults.Damaged not_lawful = sym full ∙ told in
+      absurd cc
+
   -- its record is not found
   unfound_other : (store : Pool D FireLinks) (pages : List BatchPage) (view : Pages) (key : Value) (fault : SpaceFault)
       → RefusesAloneAt m store pages view state live t table key fault → IsOther fault
   unfound_other store pages view key fault (alone_unspoken refused) = table_other store pages view fault refused
-  unfound_other store pages view key fault (alone_nobody spoken memory) = memory_other fault memory
+  unfound_other store pages view key fault (alone_nobody spoken told) = told_other fault told
   unfound_other store pages view key fault (alone_unread rec spoken refused) =
       chain_other store pages view rec fault refused
-  unfound_other store pages view key fault (alone_other rec newest spoken first other memory) =
-      memory_other fault memory
+  unfound_other store pages view key fault (alone_other rec newest spoken first other told) =
+      told_other fault told
 
   row_there : (old new : Pool D FireLinks) (image : Image) (batch : Changed) (key : Value) (fault : SpaceFault)
       → IsGeometry old.geometry → RefusesRow m old new image state live t table key batch fault

@@ -1,6 +1,6 @@
 -- A key is taken back without damage: the record that spoke for it at first is found, and its newest version is the
 -- transaction's own.
-use Rattle.std.proofs.Common.{◌≡◌, ◌≢◌, ◌≤◌, ◌/◌, ◌⊎◌, zero, suc, inl, inr, ap, refl, sym, subst, ◌∙◌, ℕ, Bool, true, false, List, [], ◌∷◌, Option, None, Some}
+use Rattle.std.proofs.Common.{◌≡◌, ◌≢◌, ◌≤◌, ◌/◌, ◌⊎◌, zero, suc, ap, refl, sym, subst, ◌∙◌, ℕ, Bool, true, false, List, [], ◌∷◌, Option, None, Some}
 use Rattle.std.proofs.Math.Path.{fun_ext}
 use Rattle.std.proofs.lemmas.Bool.{eqb-true, false≢true, ne_eqb}
 use Rattle.std.specs.Prelude.{if◌then◌else◌, map, slice_get}
@@ -29,9 +29,8 @@ use Rattle.mg_engine_steps.specs.Known.{IsShown}
 use Rattle.mg_engine_steps.specs.OtherIndexes.{as_other, speaker_on}
 use Rattle.mg_engine_steps.specs.Standing.{FindsTables, Remembers, ShowsHistory, Standing}
 use Rattle.mg_engine_steps.specs.TablePages.{data_there, table_there}
-use Rattle.mg_engine_steps.specs.Versions.{SpeaksFor, SpeaksOrSilent, told_version}
+use Rattle.mg_engine_steps.specs.Versions.{SpeaksFor, told_version}
 use Rattle.mg_engine_steps.specs.OwnChains.{own_told}
-use Rattle.mg_engine_steps.specs.Shown.{IsTakenBack}
 use Rattle.mg_generations.specs.Generations.{is_newest_by}
 use Rattle.mg_generations.specs.Kept.{IsErasedForAll, StandFor}
 use Rattle.mg_image.specs.Form.{Pages, packed_form}
@@ -52,6 +51,7 @@ use Rattle.mg_model.specs.declared.table.Table.{Table}
 use Rattle.mg_image_overlays.specs.TableOwners.{IsOneOf}
 use Rattle.mg_no_damage.proofs.FitLemmas.{rows_fit, stored_short}
 use Rattle.mg_no_damage.proofs.KeyedLemmas.{tables_are_keyed}
+use Rattle.mg_no_damage.proofs.SilentLemmas.{others_silent}
 use Rattle.mg_no_damage.specs.Keyed.{IsKeyAt, IsKeyed}
 use Rattle.mg_no_damage.specs.Keys.{WaysAreRead}
 use Rattle.mg_no_damage.specs.Sees.{no_batch}
@@ -108,7 +108,7 @@ module _ (state : ℕ → TxState) (t : ℕ) (limbo : state t ≡ Limbo) where
       let both : Limbo ≡ Committed = sym limbo ∙ (ap state (sym same) ∙ each.0) in absurd cc)
 
   -- so where the newest one that counts is its own, that is the newest of all
-  own_first : (table : Table) (es : List Read) → EachBack (λ x. state (writer x) ≡ Committed) es
+  pub own_first : (table : Table) (es : List Read) → EachBack (λ x. state (writer x) ≡ Committed) es
       → is_newest_by t (told_versions state table es) ≡ true
       → (d : Read) × (ds : List Read) × (es ≡ d ∷ ds) × (writer d ≡ t)
   own_first table [] backs is = absurd (false≢true is)
@@ -123,7 +123,7 @@ same_number : (a b : TxNo) → a.0 ≡ b.0 → a ≡ b
 same_number a b same = λ k. record { 0 = same k }
 
 -- who counts as in limbo is dead exactly where he was
-left_dead : (x : TxState) → is_dead (left_by true x) ≡ is_dead x
+pub left_dead : (x : TxState) → is_dead (left_by true x) ≡ is_dead x
 left_dead Active = refl
 left_dead Limbo = refl
 left_dead Dead = refl
@@ -162,8 +162,8 @@ kept_one (Some w) number table is = one_in w.written number table is
 
 may_come : (shape : Shape) (key : Value) (was : Was) → MayReturn shape key was → MayComeBack shape key was
 may_come shape key wases.Untouched returns = tt
-may_come shape key wases.Deleted returns = returns.0
-may_come shape key (wases.Row row) returns = (returns.0, returns.1)
+may_come shape key wases.Deleted returns = tt
+may_come shape key (wases.Row row) returns = returns.0
 
 -- a column that never is NULL is one
 key_column : (columns : List Column) (at : ℕ) (key : Value) → IsKeyAt columns at → IsOfKind (slice_get columns at) key
@@ -177,9 +177,9 @@ former_fits : (shape : Shape) (key : Value) (was : Was) → IsKeyed shape → Ma
 former_fits shape key wases.Untouched keyed returns write is = absurd cc
 former_fits shape key wases.Deleted keyed returns write is =
     let same : writes.Erase key ≡ write = cc in
-    subst (FitsShape shape) same (key_column shape.columns shape.key key keyed returns.1)
+    subst (FitsShape shape) same (key_column shape.columns shape.key key keyed returns)
 former_fits shape key (wases.Row row) keyed returns write is =
-    let same : writes.Insert row ≡ write = cc in subst (FitsShape shape) same returns.2
+    let same : writes.Insert row ≡ write = cc in subst (FitsShape shape) same returns.1
 
 -- ---- a key
 
@@ -279,49 +279,8 @@ module _ {D : Type 0} (m : Meaning D) (stand : KeptTablesStand) (named : KeptTab
       → (told_versions (left_state everyone s.state) there.its (r rec) ≡ [])
       ⊎ IsErasedForAll o h (told_versions (left_state everyone s.state) there.its (r rec))
       ⊎ (Some speaker_there.p ≡ Some rec)
-  others rec of keyed = at (midway.pages.new rec there.its of)
-    where
-      as_first : r rec ≡ first.reading rec → SpeaksOrSilent o h f0 first.reading first.versions.speaker rec there.its
-          → (told_versions (left_state everyone s.state) there.its (r rec) ≡ [])
-          ⊎ IsErasedForAll o h (told_versions (left_state everyone s.state) there.its (r rec))
-          ⊎ (Some speaker_there.p ≡ Some rec)
-      as_first same (inl empty) = inl (ap (told_versions (left_state everyone s.state) there.its) same ∙ empty)
-      as_first same (inr (inl gone)) = inr (inl (subst (λ (es : List Read). IsErasedForAll o h
-          (told_versions (left_state everyone s.state) there.its es)) (sym same) gone))
-      as_first same (inr (inr speaks)) = inr (inr (sym speaker_there.spoke
-          ∙ (ap (first.versions.speaker there.its.name) (sym keyed ∙ ap (record_key there.its) same) ∙ speaks)))
-
-      taken : table_in f0 rec ≡ Some there.its → IsTakenBack o h e t f0 first.reading r first.versions.speaker rec
-          → (es : List Read) → r rec ≡ es
-          → (told_versions (left_state everyone s.state) there.its (r rec) ≡ [])
-          ⊎ IsErasedForAll o h (told_versions (left_state everyone s.state) there.its (r rec))
-          ⊎ (Some speaker_there.p ≡ Some rec)
-      taken was it [] empty = inl (ap (told_versions (left_state everyone s.state) there.its) empty)
-      taken was it (x ∷ xs) some =
-          let both : Some it.table ≡ Some there.its = sym it.of ∙ was in
-          let same : it.table ≡ there.its = cc in
-          inr (inr (sym speaker_there.spoke ∙ (ap (first.versions.speaker there.its.name) (sym keyed
-          ∙ (ap (λ (y : Table). record_key y (r rec)) (sym same) ∙ (it.keyed (λ empty.
-          let none : x ∷ xs ≡ [] = sym some ∙ empty in absurd cc)
-          ∙ ap (λ (y : Table). record_key y (first.reading rec)) same)))
-          ∙ subst (λ (y : Table). first.versions.speaker y.name (record_key y (first.reading rec)) ≡ Some rec) same
-          it.spoke)))
-
-      by : table_in f0 rec ≡ Some there.its → (r rec ≡ first.reading rec)
-          ⊎ IsTakenBack o h e t f0 first.reading r first.versions.speaker rec
-          → (told_versions (left_state everyone s.state) there.its (r rec) ≡ [])
-          ⊎ IsErasedForAll o h (told_versions (left_state everyone s.state) there.its (r rec))
-          ⊎ (Some speaker_there.p ≡ Some rec)
-      by was (inl same) = as_first same (first.versions.others rec there.its was)
-      by was (inr it) = taken was it (r rec) refl
-
-      at : (table_at (stands_of first.layout) rec.page.0 ≡ Some there.its)
-          ⊎ ((first.reading rec ≡ []) × (r rec ≡ []))
-          → (told_versions (left_state everyone s.state) there.its (r rec) ≡ [])
-          ⊎ IsErasedForAll o h (told_versions (left_state everyone s.state) there.its (r rec))
-          ⊎ (Some speaker_there.p ≡ Some rec)
-      at (inl was) = by was (midway.pages.each_record rec)
-      at (inr (none, empty)) = inl (ap (told_versions (left_state everyone s.state) there.its) empty)
+  others = others_silent size o h e t whole left s begun (shown before.dirty i) first midway.pages there.its c.key
+      speaker_there.p speaker_there.spoke
 
   has_speaker : HasSpeaker o h f r there.its c.key (Some speaker_there.p)
   has_speaker = record {

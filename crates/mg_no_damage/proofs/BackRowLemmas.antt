@@ -47,7 +47,7 @@ use Rattle.mg_image_overlays.specs.OneChain.{link_once}
 use Rattle.mg_image_overlays.specs.OneTable.{its_data}
 use Rattle.mg_table_unmaking.specs.Rows.{FailsRowOut, IsAlone, IsAloneAt, RefusesAloneAt, RefusesRow, TakesRow, alone_nobody, alone_other, alone_unread, alone_unspoken, row_not_found, row_not_out}
 use Rattle.mg_value.specs.declared.value.Value.{Value}
-use Rattle.mg_no_damage.specs.BackRows.{RowsMeetNoDamage}
+use Rattle.mg_no_damage.specs.BackRows.{RowIsThere, RowsMeetNoDamage}
 use Rattle.mg_no_damage.specs.Batches.{ShowsSound, VersionsAreTakenOut}
 use Rattle.mg_no_damage.specs.Sees.{no_batch}
 use Rattle.mg_chain.specs.Writing.{TakesOut}
@@ -57,7 +57,8 @@ module _ {D : Type 0} (m : Meaning D) (places : PlacesOfReadings) (lawful_of : S
     (out : VersionsAreTakenOut m) (store after : Pool D FireLinks) (image : Image) (sound_by : ℕ → TxState)
     (layout : Layout) (r : Reading) (shows : ShowsSound m store image sound_by layout r) (state : ℕ → TxState)
     (live : Bases) (by : ℕ) (table : Table) (key : Value)
-    (its : catalog_table (header_of (shown store.dirty image)).catalog.0 ≡ table) where
+    (its : catalog_table (header_of (shown store.dirty image)).catalog.0 ≡ table)
+    (there_is : RowIsThere state live by (shown store.dirty image) table key) where
   its_table : layout.catalog.table ≡ table
   its_table = shows.sound.catalog ∙ its
 
@@ -132,10 +133,10 @@ module _ {D : Type 0} (m : Meaning D) (places : PlacesOfReadings) (lawful_of : S
     found it (alone_unspoken refused) = read n image no_batch f r stands.stand table sees (wants state live Living) it
         (as_now (λ (view : Pages). RefusesTableRows m n [] view (wants state live Living) table (faults.Damaged it))
         refused)
-    found it (alone_nobody spoken is) = absurd cc
+    found it (alone_nobody spoken is) = there_is.some spoken
     found it (alone_unread rec spoken refused) = chains n image no_batch f r sees.sees rec table (placed rec spoken) it
         (as_now (λ (view : Pages). RefusesChain m n [] view rec (faults.Damaged it)) refused)
-    found it (alone_other rec other spoken is_first not_alone is) = absurd cc
+    found it (alone_other rec other spoken is_first not_alone is) = not_alone (there_is.own rec other spoken is_first)
 
   -- ---- and taken out
 
@@ -165,5 +166,5 @@ pub rows_meet_no_damage : {D : Type 0} (m : Meaning D) → PlacesOfReadings → 
     → SoundTablesStand → TablesAreRead m → ChainsAreWhole m → BackOutsGoOn m → VersionsAreTakenOut m
     → RowsMeetNoDamage D m
 rows_meet_no_damage m places lawful_of tables_stand read chains go_out out store after image sound_by layout r shows state
-    live by table key its it fails = row_goes m places lawful_of tables_stand read chains go_out out store after image
-    sound_by layout r shows state live by table key its it fails
+    live by table key its there_is it fails = row_goes m places lawful_of tables_stand read chains go_out out store after image
+    sound_by layout r shows state live by table key its there_is it fails

@@ -1,5 +1,5 @@
 -- A transaction is taken back to a point over tables that it has made: the engine finds no page damaged.
-use Rattle.std.proofs.Common.{◌≡◌, ◌≢◌, ◌==◌, ◌++◌, ap, refl, sym, subst, ◌∙◌, ℕ, Bool, true, false, List, [], ◌∷◌, Ok, Err}
+use Rattle.std.proofs.Common.{◌≡◌, ◌≢◌, ◌==◌, ◌++◌, ap, refl, sym, subst, ◌∙◌, ℕ, Bool, true, false, List, [], ◌∷◌, Some, Ok, Err}
 use Rattle.std.proofs.lemmas.Bool.{ne_eqb}
 use Rattle.std.specs.Prelude.{if◌then◌else◌, map}
 use Rattle.mg_base.specs.Disk.{Meaning}
@@ -11,27 +11,40 @@ use Rattle.mg_core.specs.Refusing.{CountsFault}
 use Rattle.mg_core.specs.declared.parts.Core.{Core}
 use Rattle.mg_engine_changes.specs.BackBegun.{goes, knows}
 use Rattle.mg_engine_changes.specs.Events.{may_go, takes_back}
+use Rattle.mg_engine_changes.specs.CoreRows.{HasTakenRows}
+use Rattle.mg_engine_changes.specs.Found.{HasNewest}
+use Rattle.mg_engine_changes.specs.FoundLaws.{changes_are_there}
 use Rattle.mg_engine_changes.specs.Keys.{HasTakenKeys, IsOfTable}
 use Rattle.mg_engine_changes.specs.Known.{KnownOfBacks}
 use Rattle.mg_engine_changes.specs.Memory.{MayGoTo}
 use Rattle.mg_engine_changes.specs.Outcomes.{back_event}
-use Rattle.mg_engine_changes.specs.OverRows.{StopsAmong, has_taken, lost_at, stops_among}
+use Rattle.mg_engine_changes.specs.OverRows.{StopsAmong, gone_at, has_taken, lost_at, rows_at, stops_among, stops_parts}
 use Rattle.mg_engine_changes.specs.RowsLost.{HasLost}
 use Rattle.mg_engine_steps.specs.TablesBack.{RowsGoOn}
 use Rattle.mg_engine_steps.specs.DeadMidway.{dead_pool, every_from}
 use Rattle.mg_image_overlays.specs.KeptImages.{IsKept}
 use Rattle.mg_overlays.specs.Overlays.{left_state, nobody}
-use Rattle.mg_engine_changes.specs.OverGiven.{each_of_table, others_are}
+use Rattle.mg_engine_changes.specs.OverGiven.{each_of_table, each_own, keys_are, others_are}
 use Rattle.mg_engine_changes.specs.RowsGiven.{GivenApart, of_catalog, of_others}
 use Rattle.mg_engine_changes.specs.StopsAfter.{begun_as}
 use Rattle.mg_engine_changes.specs.ToTake.{AreKeysOf, EachChange, since_point}
 use Rattle.mg_engine_meaning.specs.Standings.{ShowsIt, StandsFor, asked_in, sessions_in, standing_of, undo_kept}
 use Rattle.mg_engine_meaning.specs.StepLaws.{shows_of}
 use Rattle.mg_engine_steps.specs.Standing.{Standing}
-use Rattle.mg_engine_steps.specs.Again.{rolling}
+use Rattle.mg_engine_steps.specs.Again.{again, rolling}
+use Rattle.mg_engine_steps.specs.CatalogPages.{ChangesCatalogPages}
+use Rattle.mg_engine_steps.specs.GoesOnLaws.{pool_is_kept}
+use Rattle.mg_engine_steps.specs.Outs.{ReadsWithout, RowsGone, is_among}
+use Rattle.mg_engine_steps.specs.SameRecords.{catalog_stands}
 use Rattle.mg_image.specs.Catalog.{catalog_table}
 use Rattle.mg_image.specs.Form.{packed_form}
+use Rattle.mg_image.specs.Histories.{row_change}
 use Rattle.mg_image.specs.Inventory.{header_of}
+use Rattle.mg_image.specs.Sound.{IsSoundBy}
+use Rattle.mg_image.specs.Tables.{Layout}
+use Rattle.mg_image_overlays.specs.Growing.{IsTableOf}
+use Rattle.mg_model.specs.Catalog.{catalog_name}
+use Rattle.mg_model.specs.Changes.{has_change}
 use Rattle.mg_model.specs.History.{Entries, Entry, entry}
 use Rattle.mg_model.specs.Machine.{deeds_by, own, steps}
 use Rattle.mg_model.specs.declared.answer.Answer.TheVariants.{Fine}
@@ -47,7 +60,8 @@ use Rattle.mg_pool.specs.declared.pool.Pool.{Pool}
 use Rattle.mg_space.specs.declared.fault.SpaceFault.{SpaceFault}
 use Rattle.mg_space.specs.declared.fault.SpaceFault.TheVariants as faults
 use Rattle.mg_space.specs.declared.links.FireLinks.{FireLinks}
-use Rattle.mg_table_takings.specs.Keys.{others_of}
+use Rattle.mg_seek.specs.Readings.{PlacesOfReadings, SpeakersOfReadings}
+use Rattle.mg_table_takings.specs.Keys.{AreKeysGiven, others_of}
 use Rattle.mg_table_takings.specs.Takings.{FailsTablesTo, FailsTheRow, StopsBoth, StopsOthers, TakesOthers, TakesRows, TakesTablesTo, no_row, one_row, rows_unknown, stops_at_other, stops_at_rows, tables_not_begun, tables_not_copied, tables_not_taken, tables_stopped}
 use Rattle.mg_table_unmaking.specs.Rows.{FailsRowOut}
 use Rattle.mg_taking_back.specs.Taking.{HasBegun, MayReach, TakesChanges, not_asking}
@@ -62,7 +76,10 @@ use Rattle.mg_no_damage.proofs.BackKeyLemmas.{own_missing}
 use Rattle.mg_no_damage.proofs.NextLemmas.{change_stays, given_next}
 use Rattle.mg_no_damage.specs.Stands.{DamageStands}
 use Rattle.mg_no_damage.specs.BackKeys.{KeysMeetNoDamage, KeysMissNoPage}
-use Rattle.mg_no_damage.specs.BackRows.{RowsMeetNoDamage}
+use Rattle.mg_no_damage.proofs.RowGivenLemmas.{each_both, each_named, each_of_catalog, key_there, not_before}
+use Rattle.mg_no_damage.proofs.RowSpokenLemmas.{active_since, reads_row}
+use Rattle.mg_no_damage.proofs.RowThereLemmas.{ReadsRow, row_is_there}
+use Rattle.mg_no_damage.specs.BackRows.{RowIsThere, RowsMeetNoDamage}
 use Rattle.mg_no_damage.specs.Batches.{ShowsSound}
 use Rattle.mg_no_damage.specs.BackTables.{MarksOverMeetNoDamage, SavepointsOverMeetNoDamage}
 
@@ -102,8 +119,8 @@ rows_stay {D} t all old new (one_row key keys begun mid end takes more) =
 
 module _ {D P : Type 0} (m : Meaning D) (known : KnownOfBacks D P m) (apart : GivenApart)
     (go_on : RowsGoOn D FireLinks m) (law : KeysMeetNoDamage D m)
-    (missing : KeysMissNoPage D m) (rows_law : RowsMeetNoDamage D m) (old new : Core D) (t : TxNo)
-    (core : IsCore m old) where
+    (missing : KeysMissNoPage D m) (rows_law : RowsMeetNoDamage D m) (speakers : SpeakersOfReadings)
+    (places : PlacesOfReadings) (old new : Core D) (t : TxNo) (core : IsCore m old) where
   module _ (point : Point) (begun : Core D) (undo : Undo) (has_begun : HasBegun old begun t.0 undo)
       (reaches : MayReach undo point) (stopped : Core D) (refusal : Refusal) (o : Opening) (h : Entries)
       (stands : StandsFor m old o h) where
@@ -189,7 +206,9 @@ module _ {D P : Type 0} (m : Meaning D) (known : KnownOfBacks D P m) (apart : Gi
     -- ---- it stops at a row of the catalog
 
     module _ (mid : Core D) (end : Undo) (taken : TakesOthers m (not_asking t.0 begun) mid t.0 (going_to undo point) end)
-        (among : StopsAmong m t.0 refusal mid stopped) where
+        (among : StopsAmong m t.0 refusal mid stopped) (keys more : List Value)
+        (rows : AreKeysGiven old.catalog.pointer.0 (going_to undo point) keys)
+        (parts : keys ≡ among.done ++ (among.key ∷ more)) where
       abbrev has_others : HasTakenKeys m old.store.geometry.size o h e t.0 whole whole (of_others firsts) (of_catalog firsts) s
           old.store old.store (shown old.store.dirty shows.image) shows.stands.shows shows.image
           (asked_in (with_work t.0 unasked old.works)) (sessions_in old.works) (begun_as old begun t.0) mid
@@ -230,15 +249,113 @@ module _ {D P : Type 0} (m : Meaning D) (known : KnownOfBacks D P m) (apart : Gi
       }
       same_at = lost.same ∙ ap (λ (c : Core D). record c { store = among.at.store }) has_others.same
 
+      -- ---- the row is there
+
+      abbrev size : ℕ
+      size = old.store.geometry.size
+
+      -- its key is that of a change of the catalog, which is not taken back yet
+      keys_are_its : map (λ c. c.key) (of_catalog firsts) ≡ among.done ++ (among.key ∷ more)
+      keys_are_its = sym (rows taken.given end taken.steps ∙ keys_are m known.what_was known.keys apart old t.0 point o h e
+          stands shows has_begun.continues.1 (takes_back t point) may taken.given end
+          (gave taken.given end taken.steps)) ∙ parts
+
+      its_change : (c : Change) × ((c.table ≡ catalog_name) × ((has_change has_others.rest c.table c.key ≡ true)
+          × (has_change (own o h t.0) c.table c.key ≡ true))) × (c.key ≡ among.key)
+      its_change = key_there (λ c. (c.table ≡ catalog_name) × ((has_change has_others.rest c.table c.key ≡ true)
+          × (has_change (own o h t.0) c.table c.key ≡ true))) (of_catalog firsts) among.done more among.key
+          (each_both (λ c. c.table ≡ catalog_name) (λ c. (has_change has_others.rest c.table c.key ≡ true)
+          × (has_change (own o h t.0) c.table c.key ≡ true)) (of_catalog firsts) (each_named firsts)
+          (each_both (λ c. has_change has_others.rest c.table c.key ≡ true)
+          (λ c. has_change (own o h t.0) c.table c.key ≡ true) (of_catalog firsts) has_others.to_come.each
+          (each_of_catalog (λ c. has_change (own o h t.0) c.table c.key ≡ true) firsts
+          (each_own m known.what_was known.keys apart old t.0 point o h e stands shows has_begun.continues.1
+          (takes_back t point) may taken.given end (gave taken.given end taken.steps))))) keys_are_its
+
+      to_catalog : (changes : List Change) → has_change changes its_change.0.table its_change.0.key ≡ true
+          → has_change changes catalog_name among.key ≡ true
+      to_catalog changes is = sym (ap (λ (n : List ℕ). has_change changes n its_change.0.key) its_change.1.0
+          ∙ ap (has_change changes catalog_name) its_change.2) ∙ is
+
+      newest : HasNewest has_others.rest catalog_name among.key
+      newest = changes_are_there has_others.rest catalog_name among.key (to_catalog has_others.rest its_change.1.1.0)
+
+      not_done : is_among among.done among.key ≡ false
+      not_done = not_before (of_catalog firsts) among.done more among.key (each_named firsts) has_others.to_come.apart
+          keys_are_its
+
+      -- between the rows, with the transaction dead
+      mid_dead : IsKept packed_form old.store.geometry.size o (again t.0 has_others.rest (e ∷ h))
+          (left_state nobody s.state) (shown mid.store.dirty has_others.image) (shown mid.store.dirty has_others.image)
+      mid_dead = pool_is_kept packed_form D FireLinks size o (again t.0 has_others.rest (e ∷ h)) s.state
+          (asked_in (with_work t.0 unasked old.works)) (sessions_in old.works) mid.store has_others.image nobody
+          has_others.midway.cache.kept
+
+      abbrev has_rows : HasTakenRows m s t.0 among.done mid among.at has_others.image
+      has_rows = rows_at m known apart go_on old begun stopped t point undo refusal core has_begun reaches mid end taken
+          o h stands shows among.done among.at among.first
+
+      same_image : has_rows.image ≡ has_lost.0
+      same_image = let both : Some has_rows.image ≡ Some has_lost.0 =
+          sym has_rows.knows.tells.held ∙ lost.knows.tells.held in cc
+
+      gone : RowsGone packed_form old.store.geometry.size o (again t.0 has_others.rest (e ∷ h)) s.state t.0 among.done
+          (shown mid.store.dirty has_others.image) (shown among.at.store.dirty has_lost.0)
+      gone = subst (λ (n : ℕ). RowsGone packed_form n o (again t.0 has_others.rest (e ∷ h)) s.state t.0 among.done
+          (shown mid.store.dirty has_others.image) (shown among.at.store.dirty has_lost.0)) has_others.knows.size_is
+          (subst (λ (i : Image). RowsGone packed_form mid.store.geometry.size o (again t.0 has_others.rest (e ∷ h)) s.state
+          t.0 among.done (shown mid.store.dirty has_others.image) (shown among.at.store.dirty i)) same_image
+          (gone_at m known apart go_on old begun stopped t point undo refusal core has_begun reaches mid end taken o h
+          stands shows among.done among.at among.first))
+
+      sound_at : IsSoundBy packed_form old.store.geometry.size (left_state nobody s.state)
+          (shown among.at.store.dirty has_lost.0) dead_now.of_pool dead_now.in_pool
+      sound_at = subst (λ (n : ℕ). IsSoundBy packed_form n (left_state nobody s.state)
+          (shown among.at.store.dirty has_lost.0) dead_now.of_pool dead_now.in_pool)
+          (lost.size_is ∙ has_others.knows.size_is) dead_now.pool_sound
+
+      without_these : (mid_dead.of_pool ≡ dead_now.of_pool)
+          × ReadsWithout t.0 among.done mid_dead.of_pool mid_dead.in_pool dead_now.in_pool
+          × ChangesCatalogPages old.store.geometry.size (shown mid.store.dirty has_others.image)
+          (shown among.at.store.dirty has_lost.0) mid_dead.of_pool
+      without_these = gone nobody refl mid_dead dead_now.of_pool dead_now.in_pool sound_at
+
+      reads : ReadsRow s.state s.live t.0 mid_dead.of_pool dead_now.in_pool has_others.midway.pages.layout.catalog.table
+          among.key
+      reads = reads_row known.rows_one size o h e t.0 whole has_others.rest s (shown old.store.dirty shows.image)
+          (shown mid.store.dirty has_others.image) shows.stands.shows has_others.midway.pages shows.stands.memory
+          has_begun.continues.1 among.key (row_change newest.row) newest.is_
+          (to_catalog (own o h t.0) its_change.1.1.1) o.next.0
+          (shows.known.lone shows.stands.shows.layout shows.stands.shows.reading shows.stands.shows.sound)
+          (active_since o h shows.stands.opening.ended shows.stands.legal t.0
+          (sym (shows.stands.memory.state t.0) ∙ has_begun.continues.1)) mid_dead.of_pool mid_dead.in_pool
+          mid_dead.pool_sound dead_now.in_pool among.done without_these.1 not_done
+
+      -- by the catalog of the core
+      mid_catalog_is : has_others.midway.pages.layout.catalog.table ≡ old.catalog
+      mid_catalog_is = has_others.midway.pages.sound.catalog
+          ∙ catalog_is old.catalog (header_of (shown mid.store.dirty has_others.image)).catalog.0 core.catalog
+          has_others.catalog
+
+      catalog_at : catalog_table (header_of (shown among.at.store.dirty has_lost.0)).catalog.0 ≡ old.catalog
+      catalog_at = catalog_is old.catalog (header_of (shown among.at.store.dirty has_lost.0)).catalog.0 core.catalog
+          (has_others.catalog ∙ sym lost.tips.catalog)
+
+      row_there : RowIsThere (said old.list) old.live t.0 (shown among.at.store.dirty has_lost.0) old.catalog among.key
+      row_there = row_is_there speakers places size (left_state nobody s.state) (shown among.at.store.dirty has_lost.0)
+          dead_now.of_pool dead_now.in_pool sound_at s.state s.live t.0 has_begun.continues.1 old.catalog
+          (subst (IsTableOf dead_now.of_pool) (sound_at.catalog ∙ catalog_at) (catalog_stands dead_now.of_pool)) among.key
+          (subst (λ (x : Table). ReadsRow s.state s.live t.0 dead_now.of_pool dead_now.in_pool x among.key) mid_catalog_is
+          (subst (λ (l : Layout). ReadsRow s.state s.live t.0 l dead_now.in_pool
+          has_others.midway.pages.layout.catalog.table among.key) without_these.0 reads))
+
       fault_stays : (fault : SpaceFault) → FailsRowOut m among.at.store stopped.store (said old.list)
           old.live t.0 old.catalog among.key fault → (shortages : ℕ)
           → CountsFault fault old.damage stopped.damage old.shortages shortages → stopped.damage ≡ old.damage
       fault_stays (faults.Full limit) fails shortages counts = counts.0
       fault_stays (faults.Damaged it) fails shortages counts = absurd (rows_law among.at.store stopped.store has_lost.0
           (left_state nobody s.state) dead_now.of_pool dead_now.in_pool shows_now (said old.list) old.live t.0 old.catalog
-          among.key
-          (catalog_is old.catalog (header_of (shown among.at.store.dirty has_lost.0)).catalog.0 core.catalog
-          (has_others.catalog ∙ sym lost.tips.catalog)) it fails)
+          among.key catalog_at row_there it fails)
       fault_stays (faults.Pool (pool_faults.DiskRead n)) fails shortages counts = counts.0
       fault_stays (faults.Pool (pool_faults.DiskWrite n)) fails shortages counts = counts.0
       fault_stays (faults.Pool (pool_faults.Offline n)) fails shortages counts = counts.0
@@ -251,11 +368,14 @@ module _ {D P : Type 0} (m : Meaning D) (known : KnownOfBacks D P m) (apart : Gi
           let there = subst (λ (c : Core D). FailsTheRow m c stopped t.0 among.key refusal) same_at among.fails in
           fault_stays there.fault there.fails stopped.shortages there.counts
 
-    both_stay : (keys : List Value) → StopsBoth m (not_asking t.0 begun) stopped t.0 (going_to undo point) keys refusal
+    both_stay : (keys : List Value) → AreKeysGiven begun.catalog.pointer.0 (going_to undo point) keys
+        → StopsBoth m (not_asking t.0 begun) stopped t.0 (going_to undo point) keys refusal
         → stopped.damage ≡ old.damage
-    both_stay keys (stops_at_other stops) = other_stays stops
-    both_stay keys (stops_at_rows mid end taken fails) =
-        row_stays mid end taken (stops_among m t.0 refusal keys mid stopped fails)
+    both_stay keys rows (stops_at_other stops) = other_stays stops
+    both_stay keys rows (stops_at_rows mid end taken fails) =
+        let (more, parts) = stops_parts m t.0 refusal keys mid stopped fails in
+        row_stays mid end taken (stops_among m t.0 refusal keys mid stopped fails) keys more
+        (subst (λ (c : Core D). AreKeysGiven c.catalog.pointer.0 (going_to undo point) keys) begun_is rows) parts
 
   -- ---- each outcome
 
@@ -268,7 +388,7 @@ module _ {D P : Type 0} (m : Meaning D) (known : KnownOfBacks D P m) (apart : Gi
       given_up_stays begun new t.0 refusal gives ∙ ap (λ (c : Core D). c.damage) has_begun.ended.same
   over_fails point refusal (tables_not_taken begun undo has_begun reaches (tables_stopped keys stopped rows stops gives))
       o h stands told = given_up_stays stopped new t.0 refusal gives
-      ∙ both_stay point begun undo has_begun reaches stopped refusal o h stands keys stops
+      ∙ both_stay point begun undo has_begun reaches stopped refusal o h stands keys rows stops
 
   pub over_takes : (point : Point) → TakesTablesTo m old new t.0 point → new.damage ≡ old.damage
   over_takes point takes = ap (λ (c : Core D). c.damage) takes.takes.same
@@ -278,18 +398,22 @@ module _ {D P : Type 0} (m : Meaning D) (known : KnownOfBacks D P m) (apart : Gi
       ∙ ap (λ (c : Core D). c.damage) takes.has_begun.ended.same))
 
 pub marks_over_meet_no_damage : {D P : Type 0} (m : Meaning D) → KnownOfBacks D P m → GivenApart
-    → RowsGoOn D FireLinks m → KeysMeetNoDamage D m → KeysMissNoPage D m → RowsMeetNoDamage D m → MarksOverMeetNoDamage D m
-marks_over_meet_no_damage m known apart go_on law missing rows_law old new t (Ok x) core takes o h stands told =
-    over_takes m known apart go_on law missing rows_law old new t core LastMark takes
-marks_over_meet_no_damage m known apart go_on law missing rows_law old new t (Err refusal) core fails o h stands told =
-    over_fails m known apart go_on law missing rows_law old new t core LastMark refusal fails o h stands told
+    → RowsGoOn D FireLinks m → KeysMeetNoDamage D m → KeysMissNoPage D m → RowsMeetNoDamage D m → SpeakersOfReadings
+    → PlacesOfReadings → MarksOverMeetNoDamage D m
+marks_over_meet_no_damage m known apart go_on law missing rows_law speakers places old new t (Ok x) core takes o h stands
+    told = over_takes m known apart go_on law missing rows_law speakers places old new t core LastMark takes
+marks_over_meet_no_damage m known apart go_on law missing rows_law speakers places old new t (Err refusal) core fails o h
+    stands told =
+    over_fails m known apart go_on law missing rows_law speakers places old new t core LastMark refusal fails o h stands told
 
 pub savepoints_over_meet_no_damage : {D P : Type 0} (m : Meaning D) → KnownOfBacks D P m → GivenApart
-    → RowsGoOn D FireLinks m → KeysMeetNoDamage D m → KeysMissNoPage D m → RowsMeetNoDamage D m → SavepointsOverMeetNoDamage D m
-savepoints_over_meet_no_damage m known apart go_on law missing rows_law old new t name (Ok true) core gone o h stands told =
-    over_takes m known apart go_on law missing rows_law old new t core (SavepointNamed name) gone.1
-savepoints_over_meet_no_damage {D} m known apart go_on law missing rows_law old new t name (Ok false) core gone o h stands
-    told = ap (λ (c : Core D). c.damage) gone.2
-savepoints_over_meet_no_damage m known apart go_on law missing rows_law old new t name (Err refusal) core fails o h stands
-    told = over_fails m known apart go_on law missing rows_law old new t core (SavepointNamed name) refusal fails o h stands
-    told
+    → RowsGoOn D FireLinks m → KeysMeetNoDamage D m → KeysMissNoPage D m → RowsMeetNoDamage D m → SpeakersOfReadings
+    → PlacesOfReadings → SavepointsOverMeetNoDamage D m
+savepoints_over_meet_no_damage m known apart go_on law missing rows_law speakers places old new t name (Ok true) core gone o
+    h stands told =
+    over_takes m known apart go_on law missing rows_law speakers places old new t core (SavepointNamed name) gone.1
+savepoints_over_meet_no_damage {D} m known apart go_on law missing rows_law speakers places old new t name (Ok false) core
+    gone o h stands told = ap (λ (c : Core D). c.damage) gone.2
+savepoints_over_meet_no_damage m known apart go_on law missing rows_law speakers places old new t name (Err refusal) core
+    fails o h stands told = over_fails m known apart go_on law missing rows_law speakers places old new t core
+    (SavepointNamed name) refusal fails o h stands told

@@ -54,11 +54,10 @@ use Rattle.mg_row_writes.specs.Befores.{IsBefore}
 use Rattle.mg_row_writes.specs.Changing.{FailsFirst, FailsOver, FailsPlace, FailsReplacing, FailsTakingOut, TakesNewestOut, TakesPlace}
 use Rattle.mg_row_writes.specs.Finding.{IsInWay}
 use Rattle.mg_row_writes.specs.Bare.{BareFails, no_first_there, no_place_there, not_out, not_over}
-use Rattle.mg_row_writes.specs.Storing.{MayBeStored, row_stored, written_at}
+use Rattle.mg_row_writes.specs.Storing.{MayBeStored, written_at}
 use Rattle.mg_row_writes.specs.declared.before.Before.{Before}
 use Rattle.mg_row_writes.specs.declared.before.Way.TheVariants as ways
 use Rattle.mg_row_writes.specs.declared.before.Way.{Way}
-use Rattle.mg_rowcode.specs.Storable.{AreStorable}
 use Rattle.mg_seek.specs.Speaking.{IsSpeaker}
 use Rattle.mg_space.specs.Taking.{IsGeometry}
 use Rattle.mg_space.specs.TakingLaws.{page_sizes}
@@ -74,8 +73,7 @@ use Rattle.std.proofs.Common.{None, Option, Some, ap, length, map, subst, sym, t
 
 module _ {D P : Type 0} (m : Meaning D) (places : Places P) (parts : WriteParts m) (old : Core D) (t : TxNo)
     (table : Table) (write : Write) (core : IsCore m old) (given : given_to old.works t.0 table.name ≡ Some table)
-    (noted : HasNoted old.works t.0 table) (fits : FitsShape table.shape write)
-    (storable : AreStorable (row_stored table write)) (o : Opening) (h : Entries) (read : Core D) (before : Before)
+    (noted : HasNoted old.works t.0 table) (fits : FitsShape table.shape write) (o : Opening) (h : Entries) (read : Core D) (before : Before)
     (version : Version) (ready : IsReady m old read t table write before version) (stands : StandsFor m old o h) where
   free : IsFree m old ready.free t table write ready.wait ready.rec
   free = ready.is_free
@@ -132,7 +130,7 @@ module _ {D P : Type 0} (m : Meaning D) (places : Places P) (parts : WriteParts 
   abbrev its_there : IsShown mid_shows.stands.shows.layout table
   its_there = there parts.speakers parts.befores parts.follow parts.may_write parts.coded parts.lists m places
       parts.unask (record old { store = read.store }) since.keeps.pool o h mid_stands mid_shows t begun.continues.1
-      begun.may.work work_is table given write fits storable read.waits since.over before version ready.has.stored
+      begun.may.work work_is table given write fits read.waits since.over before version ready.has.stored
       answered
 
   -- what was told of the pages is so of these
@@ -178,7 +176,7 @@ module _ {D P : Type 0} (m : Meaning D) (places : Places P) (parts : WriteParts 
         table.name (written_at table write)
     silent_there = (tells parts.speakers parts.befores parts.follow parts.may_write parts.coded parts.lists m places
         parts.unask (record old { store = read.store }) since.keeps.pool o h mid_stands mid_shows t begun.continues.1
-        begun.may.work work_is table given write fits storable read.waits since.over before version ready.has.stored
+        begun.may.work work_is table given write fits read.waits since.over before version ready.has.stored
         answered None (facts_at None (ap record_of way)).0).1
 
     taken : HasTaken m o h (standing_of (record old { store = read.store }) mid_stands.numbers mid_stands.tables)
@@ -186,14 +184,14 @@ module _ {D P : Type 0} (m : Meaning D) (places : Places P) (parts : WriteParts 
         (sessions_in old.works) its_there.its at table.name (written_at table write) t.0
     taken = spot_taken parts.speakers parts.befores parts.follow parts.may_write parts.coded parts.lists m places
         parts.unask (record old { store = read.store }) since.keeps.pool o h mid_stands mid_shows t begun.continues.1
-        begun.may.work work_is table given write fits storable read.waits since.over before version ready.has.stored
+        begun.may.work work_is table given write fits read.waits since.over before version ready.has.stored
         answered noted parts.holds mid_geometry placed parts.one parts.dirs.one_way parts.begin parts.on parts.behind parts.still
         silent_there at takes
 
     taken_told : m.tells placed.disk ≡ true
     taken_told = placed_told parts.speakers parts.befores parts.follow parts.may_write parts.coded parts.lists m places
         parts.unask (record old { store = read.store }) since.keeps.pool o h mid_stands mid_shows t begun.continues.1
-        begun.may.work work_is table given write fits storable read.waits since.over before version ready.has.stored
+        begun.may.work work_is table given write fits read.waits since.over before version ready.has.stored
         answered noted parts.holds mid_geometry placed parts.one parts.dirs.one_way parts.begin parts.on parts.behind parts.still
         silent_there at takes
 
@@ -209,14 +207,14 @@ module _ {D P : Type 0} (m : Meaning D) (places : Places P) (parts : WriteParts 
         (sessions_in old.works) rec table.name (written_at table write) t.0
     cleared = dead_cleared parts.speakers parts.befores parts.follow parts.may_write parts.coded parts.lists m places
         parts.unask (record old { store = read.store }) since.keeps.pool o h mid_stands mid_shows t begun.continues.1
-        begun.may.work work_is table given write fits storable read.waits since.over before version ready.has.stored
+        begun.may.work work_is table given write fits read.waits since.over before version ready.has.stored
         answered noted parts.holds mid_geometry placed parts.one parts.dirs.one_way parts.on parts.behind parts.keep_plain
         parts.ways_free parts.speak parts.deads rec at_record.0 at_record.2 way at_record.1 takes
 
     cleared_tells : m.tells placed.disk ≡ true
     cleared_tells = cleared_told parts.speakers parts.befores parts.follow parts.may_write parts.coded parts.lists m
         places parts.unask (record old { store = read.store }) since.keeps.pool o h mid_stands mid_shows t
-        begun.continues.1 begun.may.work work_is table given write fits storable read.waits since.over before version
+        begun.continues.1 begun.may.work work_is table given write fits read.waits since.over before version
         ready.has.stored answered noted parts.holds mid_geometry placed parts.one parts.dirs.one_way parts.on parts.behind
         parts.keep_plain parts.ways_free parts.speak parts.deads rec at_record.0 at_record.2 way at_record.1 takes
 

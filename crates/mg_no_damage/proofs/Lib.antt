@@ -31,7 +31,11 @@ mod PackedLemmas
 mod PageLemmas
 mod PlaceLemmas
 mod ReadLemmas
+mod RowGivenLemmas
 mod RowLemmas
+mod RowSpokenLemmas
+mod RowThereLemmas
+mod SilentLemmas
 mod SoundLemmas
 mod SpokenLemmas
 mod StageLemmas

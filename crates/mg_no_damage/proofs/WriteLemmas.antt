@@ -17,11 +17,10 @@ use Rattle.mg_records.specs.Writing.{FitsShape}
 use Rattle.mg_records.specs.declared.write.Write.{Write}
 use Rattle.mg_row_writes.specs.Bare.{BareFails, IsBare, no_first_there, no_place_there, not_out, not_over}
 use Rattle.mg_row_writes.specs.BareLaws.{bare_fails, bare_keys}
-use Rattle.mg_row_writes.specs.Storing.{row_stored, written_at}
+use Rattle.mg_row_writes.specs.Storing.{written_at}
 use Rattle.mg_row_writes.specs.declared.before.Before.{Before}
 use Rattle.mg_row_writes.specs.declared.before.Way.{Way}
 use Rattle.mg_row_writes.specs.declared.before.Way.TheVariants as ways
-use Rattle.mg_rowcode.specs.Storable.{AreStorable}
 use Rattle.mg_space.specs.ViewLaws.{CountsNow}
 use Rattle.mg_space.specs.declared.fault.SpaceFault.{SpaceFault}
 use Rattle.mg_space.specs.declared.fault.SpaceFault.TheVariants as space
@@ -80,7 +79,7 @@ pub record ReadParts {D : Type 0} (m : Meaning D) : Type 0 where
 module _ {D P : Type 0} (m : Meaning D) (places : Places P) (parts : WriteParts m) (reads : ReadParts m)
     (old new : Core D) (t : TxNo) (table : Table) (write : Write) (core : IsCore m old)
     (given : given_to old.works t.0 table.name ≡ Some table) (noted : HasNoted old.works t.0 table)
-    (fits : FitsShape table.shape write) (storable : AreStorable (row_stored table write)) (o : Opening) (h : Entries)
+    (fits : FitsShape table.shape write) (o : Opening) (h : Entries)
     (stands : StandsFor m old o h) (told : m.tells old.store.disk ≡ true) where
   module _ (continues : Continues old t.0) where
     abbrev shows : ShowsIt m old o h (standing_of old stands.numbers stands.tables)
@@ -118,7 +117,7 @@ module _ {D P : Type 0} (m : Meaning D) (places : Places P) (parts : WriteParts 
       → FailsKept m read new t.0 table write (written_at table write) before v refusal
       → new.damage ≡ read.damage
   kept_stands read before v refusal ready (too_long never counts) = absurd (never (may_store m places parts old t table
-      write core given noted fits storable o h read before v ready stands))
+      write core given noted fits o h read before v ready stands))
   kept_stands read before v refusal ready (key_too_long never counts) = absurd (never (bare_keys m table
       (bare ready.is_free.has_found.has_passed.has_begun.continues) read.store.geometry.size write))
   kept_stands read before v refusal ready (not_kept may told_) = ap count told_.1
@@ -129,7 +128,7 @@ module _ {D P : Type 0} (m : Meaning D) (places : Places P) (parts : WriteParts 
       at : (fault : SpaceFault) → BareFails m read.store new.store table.pointer.0 before.way v fault
           → CountsFault fault read.damage new.damage read.shortages new.shortages → new.damage ≡ read.damage
       at (space.Full limit) lay counts = counts.0
-      at (space.Damaged it) lay counts = absurd (laid m places parts old t table write core given noted fits storable o
+      at (space.Damaged it) lay counts = absurd (laid m places parts old t table write core given noted fits o
           h read before v ready stands new.store it before.way refl lay)
       at (space.Pool (faults.DiskRead n)) lay counts = counts.0
       at (space.Pool (faults.DiskWrite n)) lay counts = counts.0
@@ -183,16 +182,16 @@ written m counts_now old new t table write core writes = ap count writes.puts.la
 
 pub writes : {D P : Type 0} (m : Meaning D) (places : Places P) → WriteParts m → ReadParts m → NotedWorksStay
     → NotedTablesAreKept → NotesStay D m → WritesMeetNone D m
-writes m places parts reads works_stay kept notes_stay old new t table write (Ok x) core given fits storable writes_ o h
+writes m places parts reads works_stay kept notes_stay old new t table write (Ok x) core given fits writes_ o h
     stands told = written m parts.counts_now (with_noted t.0 table old) new t table write
     (noted_core works_stay m notes_stay old t table given core) writes_
-writes m places parts reads works_stay kept notes_stay old new t table write (Err refusal) core given fits storable
+writes m places parts reads works_stay kept notes_stay old new t table write (Err refusal) core given fits
     (noted_not is) o h stands told = refused old new t.0 refusal is
-writes m places parts reads works_stay kept notes_stay old new t table write (Err refusal) core given fits storable
+writes m places parts reads works_stay kept notes_stay old new t table write (Err refusal) core given fits
     (noted_memory continues wait is) o h stands told = ended old new t.0 wait
-writes m places parts reads works_stay kept notes_stay old new t table write (Err refusal) core given fits storable
+writes m places parts reads works_stay kept notes_stay old new t table write (Err refusal) core given fits
     (noted_fails fails) o h stands told = failed m places parts reads (with_noted t.0 table old) new t table write
     (noted_core works_stay m notes_stay old t table given core)
     (noted_given works_stay m notes_stay old t table given t.0 table.name ∙ given)
-    (table_noted kept old t table given) fits storable o h (notes_stay old t.0 table o h given stands) told refusal
+    (table_noted kept old t table given) fits o h (notes_stay old t.0 table o h given stands) told refusal
     fails

@@ -8,8 +8,6 @@ use Rattle.mg_model.specs.declared.refusal.Refusal.{Refusal}
 use Rattle.mg_model.specs.declared.table.Table.{Table}
 use Rattle.mg_records.specs.Writing.{FitsShape}
 use Rattle.mg_records.specs.declared.write.Write.{Write}
-use Rattle.mg_row_writes.specs.Storing.{row_stored}
-use Rattle.mg_rowcode.specs.Storable.{AreStorable}
 use Rattle.mg_works.specs.Works.{given_to}
 use Rattle.mg_core.specs.declared.parts.Core.{Core}
 use Rattle.mg_core.specs.Beginning.{BeginsFor}
@@ -76,6 +74,5 @@ PageWritesMeetNone D m = (old new : Core D) (result : Result (Option PageNo) Ref
 abbrev pub WritesMeetNone : (D : Type 0) → Meaning D → Type 0
 WritesMeetNone D m = (old new : Core D) (t : TxNo) (table : Table) (write : Write) (result : Result (Unit {0}) Refusal)
     → IsCore m old → given_to old.works t.0 table.name ≡ Some table → FitsShape table.shape write
-    → AreStorable (row_stored table write)
     → MatchResult result (λ _. WritesNoted m old new t table write) (FailsNoted m old new t table write)
     → DamageStands m old new

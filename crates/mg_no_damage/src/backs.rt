@@ -56,6 +56,7 @@ pub fn backs_over_meet_no_damage<D: Disk>()
     ensures savepoints { SavepointsOverMeetNoDamage D D.meaning }
 {
     backs_are_known::<D, u32>();
+    records_are_those_of_every_reading();
     rows_are_given();
     rows_go_on::<D, FireLinks>();
     keys_meet_no_damage::<D>();

@@ -85,7 +85,8 @@
 //!   key that is still to be taken back is the one that spoke for it at first, and its newest version is the
 //!   transaction's own. So the key is found, and its version is taken out or replaced, without damage (`KeysMeetNoDamage`).
 //! - The rows of the catalog go one by one, each in a batch of its own. With their maker dead the pages are sound before and
-//!   after each of them, so it is read and taken out as over a sound image (`RowsMeetNoDamage`).
+//!   after each of them, so it is read and taken out as over a sound image (`RowsMeetNoDamage`), where it is there to be
+//!   taken out (`RowIsThere`): it stood alone in its record when the way back began, and each key goes once.
 //! - So an engine takes a transaction back to its last mark or to a savepoint without damage, where no change since is of
 //!   the catalog (`MarksMeetNoDamage`, `SavepointsMeetNoDamage`), and over tables that it has made
 //!   (`MarksOverMeetNoDamage`, `SavepointsOverMeetNoDamage`).

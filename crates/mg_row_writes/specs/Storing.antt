@@ -1,7 +1,6 @@
 -- What a write stores.
 use Rattle.std.specs.Prelude.{◌≡◌, ◌≢◌, ◌+◌, ◌≤◌, ◌<◌, ◌==◌, ℕ, Bool, true, false, List, [], ◌∷◌, if◌then◌else◌}
 use Rattle.std.specs.Prelude.{length}
-use Rattle.mg_base.specs.declared.geometry.TheConstants.{GREATEST_LIMIT}
 use Rattle.mg_image.specs.Form.{Row}
 use Rattle.mg_image.specs.RecordRules.{columns_for}
 use Rattle.mg_model.specs.Catalog.{key_of}
@@ -40,9 +39,10 @@ row_stored table (writes.Insert row) = row
 row_stored table (writes.Change key row) = row
 row_stored table (writes.Erase key) = alone_at table.shape.key 0 key table.shape.columns
 
--- A version stores a row under some columns.
+-- A version stores a row under some columns; its values are of the types that the program has.
 pub record StoresRow (columns : List Column) (row : Row) (v : Version) : Type 0 where
   pub fits : RowFits columns row
+  pub storable : AreStorable row
   pub packed : StandsFor v.body (row_bytes columns row)
 
 -- The version that a transaction's write stores.

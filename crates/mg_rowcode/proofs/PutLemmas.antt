@@ -1,5 +1,5 @@
 -- The loops that write and read the parts of a row one after another.
-use Rattle.std.proofs.Common.{◌≡◌, ℕ, ◌+◌, ◌-◌, ◌<◌, ◌≤◌, arith, Bool, List, [], ◌∷◌, ◌++◌, length, take, drop, replicate, get_or, sym, ap, subst, ◌∙◌, append-nil, append_assoc}
+use Rattle.std.proofs.Common.{◌≡◌, ℕ, ◌+◌, ◌<◌, ◌≤◌, arith, Bool, List, [], ◌∷◌, ◌++◌, length, take, drop, replicate, get_or, sym, ap, subst, ◌∙◌, append-nil, append_assoc}
 use Rattle.std.specs.List.{sum_by}
 use Rattle.std.proofs.lemmas.List.{drop_more, drop_all, length-drop, replicate_more, nil_from_length}
 use Rattle.std.proofs.lemmas.List.Sums.{sum_by-cons}

@@ -3,6 +3,7 @@
 ghost use Rattle.std.specs.Prelude.{◌≡◌, ◌≤◌, ◌++◌, length, map, replicate, OnOk, OnErr, IfOk};
 ghost use Rattle.mg_value.specs.Rows.{number_of_bits, bytes_of_bits, is_null, value_bytes, values_bytes, row_bytes, width_of, RowFits, FitsKind};
 ghost use Rattle.mg_rle.specs.Writing.{AppendsPacked};
+ghost use Rattle.mg_rowcode.specs.Storable.{AreStorable, IsStorable};
 
 use mg_base::Memory;
 use mg_rle::pack;
@@ -55,7 +56,8 @@ pub(crate) fn put_zeros(count: usize, out: &mut Vec<u8>) -> Result<(), Memory>
 /// Appends the bytes of a value.
 fn put_value(kind: Kind, value: &Value, out: &mut Vec<u8>) -> Result<(), Memory>
     requires { FitsKind kind value.now }
-    ensures { OnOk result (out.new.items ≡ out.old.items ++ value_bytes kind value.now) }
+    ensures bytes { OnOk result (out.new.items ≡ out.old.items ++ value_bytes kind value.now) }
+    ensures storable { OnOk result (IsStorable value.now) }
 {
     let width = kind.width();
     match value {
@@ -74,7 +76,8 @@ fn put_value(kind: Kind, value: &Value, out: &mut Vec<u8>) -> Result<(), Memory>
 /// Appends the bytes of the values.
 fn put_values(columns: &[Column], values: &[Value], out: &mut Vec<u8>) -> Result<(), Memory>
     requires { RowFits columns.now values.now }
-    ensures { OnOk result (out.new.items ≡ out.old.items ++ values_bytes columns.now values.now) }
+    ensures bytes { OnOk result (out.new.items ≡ out.old.items ++ values_bytes columns.now values.now) }
+    ensures storable { OnOk result (AreStorable values.now) }
 {
     let mut rest = values;
     for column in columns {
@@ -94,7 +97,8 @@ pub(crate) fn plain_row(
     values: &[Value],
 ) -> Result<Vec<u8>, Memory>
     requires { RowFits columns.now values.now }
-    ensures { IfOk result (λ plain. plain.items ≡ row_bytes columns.now values.now) }
+    ensures bytes { IfOk result (λ plain. plain.items ≡ row_bytes columns.now values.now) }
+    ensures storable { IfOk result (λ plain. AreStorable values.now) }
 {
     let mut plain = Vec::new(alloc);
     put_nulls(values, &mut plain)?;
@@ -102,7 +106,7 @@ pub(crate) fn plain_row(
     Ok(plain)
 }
 
-/// Appends the packed bytes of a row.
+/// Appends the packed bytes of a row. Its values are of the types that the program has.
 ///
 /// # Errors
 ///
@@ -111,6 +115,7 @@ pub fn encode_row(s: &Shape, r: &Row, out: &mut Vec<u8>) -> Result<(), Memory>
     requires { RowFits s.now.columns r.now }
     ensures ok { OnOk result
         (AppendsPacked out.old.items out.new.items (row_bytes s.now.columns r.now)) }
+    ensures storable { OnOk result (AreStorable r.now) }
     ensures err { OnErr result (out.new.items ≡ out.old.items) }
 {
     let plain = plain_row(*out.allocator(), s.columns.as_slice(), r.as_slice())?;

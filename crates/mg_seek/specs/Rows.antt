@@ -15,7 +15,6 @@ use Rattle.mg_space.specs.declared.fault.SpaceFault.{SpaceFault}
 use Rattle.mg_space.specs.declared.fault.SpaceFault.TheVariants as faults
 use Rattle.mg_value.specs.declared.shape.Column.{Column}
 use Rattle.mg_value.specs.declared.value.Value.{Value}
-use Rattle.mg_value.specs.declared.value.Value.TheVariants.{Null, Int, Text}
 use Rattle.mg_value.specs.Rows.{columns_of, row_len_of}
 use Rattle.mg_version.specs.declared.cell.Version.{Version}
 use Rattle.mg_seek.specs.declared.walk.Placed.{Placed}
@@ -49,17 +48,6 @@ IsRowDamage table p it = IsBodyDamage (columns_for table p.version.deleted) p it
 -- why the row of a table's version is not read
 abbrev pub RefusesRowOf : Table → Placed → SpaceFault → Type 0
 RefusesRowOf table p fault = RefusesBody (columns_for table p.version.deleted) p fault
-
--- a text is no longer than a column may allow
-abbrev pub IsShortText : Value → Type 0
-IsShortText Null = Unit {0}
-IsShortText (Int number) = Unit {0}
-IsShortText (Text text) = length text < 2 ^ 16
-
--- each text among these values is so
-abbrev pub HasShortTexts : List Value → Type 0
-HasShortTexts [] = Unit {0}
-HasShortTexts (value ∷ values) = IsShortText value × HasShortTexts values
 
 -- a version that is no deletion gives its row, and a deletion gives none
 abbrev pub IsRowOr : Bool → Table → Version → Option Row → Type 0

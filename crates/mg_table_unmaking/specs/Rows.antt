@@ -11,9 +11,8 @@ use Rattle.mg_image.specs.Form.{Pages}
 use Rattle.mg_model.specs.declared.table.Table.{Table}
 use Rattle.mg_pool.specs.Batch.{Changed}
 use Rattle.mg_pool.specs.declared.batch.BatchPage.{BatchPage}
-use Rattle.mg_pool.specs.declared.fault.PoolFault.TheVariants as pool_faults
 use Rattle.mg_pool.specs.declared.pool.Pool.{Pool}
-use Rattle.mg_batches.specs.Batches.{ChangesOwn, FailsOwn, nothing_yet}
+use Rattle.mg_batches.specs.Batches.{ChangesOwn, FailsOwn, not_lawful, nothing_yet}
 use Rattle.mg_seek.specs.Speaking.{IsSpeaker, RefusesTableRows}
 use Rattle.mg_seek.specs.Versions.{IsFirst, wants}
 use Rattle.mg_seek.specs.declared.walk.Placed.{Placed}
@@ -40,20 +39,19 @@ pub record IsAloneAt (state : ℕ → TxState) (live : State) (t : ℕ) (view : 
   pub first : IsFirst view (wants state live Any) rec newest
   pub alone : IsAlone t newest
 
--- Why no such record is found. That none speaks for the key, or that it has another version, no lawful engine meets, and it is
--- no damage of a page: it is told as want of memory.
+-- Why no such record is found. That none speaks for the key, or that it has another version, no lawful engine meets.
 pub data RefusesAloneAt {D L : Type 0} (m : Meaning D) (store : Pool D L) (pages : List BatchPage)
     (view : Pages) (state : ℕ → TxState) (live : State) (t : ℕ) (table : Table) (key : Value) (fault : SpaceFault)
     : Type 0 where
   alone_unspoken : RefusesTableRows m store pages view (wants state live Living) table fault
       → RefusesAloneAt m store pages view state live t table key fault
-  alone_nobody : IsSpeaker state live view table key None → fault ≡ faults.Pool pool_faults.Memory
+  alone_nobody : IsSpeaker state live view table key None → fault ≡ faults.Damaged not_lawful
       → RefusesAloneAt m store pages view state live t table key fault
   alone_unread : (rec : RecId) → IsSpeaker state live view table key (Some rec)
       → RefusesChain m store pages view rec fault
       → RefusesAloneAt m store pages view state live t table key fault
   alone_other : (rec : RecId) (newest : Option Placed) → IsSpeaker state live view table key (Some rec)
-      → IsFirst view (wants state live Any) rec newest → (IsAlone t newest → ⊥) → fault ≡ faults.Pool pool_faults.Memory
+      → IsFirst view (wants state live Any) rec newest → (IsAlone t newest → ⊥) → fault ≡ faults.Damaged not_lawful
       → RefusesAloneAt m store pages view state live t table key fault
 
 -- ---- a row

@@ -10,10 +10,10 @@ ghost use Rattle.mg_space.specs.View.{AreWhole, KeepsStore, Tells, pool_answer, 
 ghost use Rattle.mg_table_unmaking.specs.Rows.{FailsRowOut, IsAlone, IsAloneAt, RefusesAloneAt, RefusesRow, TakesRow, TakesRowOut};
 
 use mg_base::{Disk, GREATEST_LIMIT, RecId, TxNo};
-use mg_batches::change_batch;
+use mg_batches::{change_batch, unlawful};
 use mg_chain::{States, back_out};
 use mg_model::Table;
-use mg_pool::{Batch, PoolFault};
+use mg_pool::Batch;
 use mg_seek::{Placed, Wanted, first_version, speaker};
 use mg_snap::Live;
 use mg_space::{SpaceFault, Store};
@@ -33,8 +33,8 @@ fn is_alone(newest: &Option<Placed>, t: TxNo) -> bool
 ///
 /// # Errors
 ///
-/// As `speaker` and `first_version` of mg_seek; `Memory` where no record speaks for the key, or its versions are others, which
-/// no engine meets that has made the row: no page is damaged then.
+/// As `speaker` and `first_version` of mg_seek; `Damaged` by `unlawful` where no record speaks for the key, or its versions are
+/// others, which no lawful engine meets.
 fn alone_at<D: Disk, S: States>(
     store: &mut Store<D>,
     batch: &Batch,
@@ -60,13 +60,13 @@ fn alone_at<D: Disk, S: States>(
 {
     let found = speaker(store, batch, table, key, states, live)?;
     let Some(rec) = found else {
-        return Err(SpaceFault::Pool(PoolFault::Memory));
+        return Err(SpaceFault::Damaged(unlawful()));
     };
     let newest = first_version(store, batch, rec, states, live, Wanted::Any)?;
     if is_alone(&newest, t) {
         return Ok(rec);
     }
-    Err(SpaceFault::Pool(PoolFault::Memory))
+    Err(SpaceFault::Damaged(unlawful()))
 }
 
 /// Takes the row of a key out of a table, in a batch.

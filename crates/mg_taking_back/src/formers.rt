@@ -2,40 +2,11 @@
 
 ghost use Rattle.std.specs.Prelude.{◌≡◌, ◌↔◌, IsTrue};
 ghost use Rattle.mg_model.specs.Catalog.{key_of};
-ghost use Rattle.mg_rowcode.specs.Storable.{AreStorable, IsStorable};
 ghost use Rattle.mg_taking_back.specs.Formers.{MayComeBack};
 
 use mg_undo::Was;
 use mg_value::{Row, Shape, Value, order, values_are_ordered};
 use std::cmp::Ordering;
-
-/// Tells whether the program has a value: it has every number of 64 bits, and no longer text than a column may allow.
-fn is_storable(value: &Value) -> bool
-    ensures { IsTrue result ↔ IsStorable value.now }
-{
-    match value {
-        Value::Null => true,
-        Value::Int(number) => {
-            let _number = *number;
-            true
-        }
-        Value::Text(text) => text.as_slice().len() < 65_536,
-    }
-}
-
-/// Tells whether the program has each of some values.
-fn are_storable(values: &[Value]) -> bool
-    ensures { IsTrue result ↔ AreStorable values.now }
-{
-    let mut rest = values;
-    while let Some((value, later)) = rest.split_first() {
-        if !is_storable(value) {
-            return false;
-        }
-        rest = later;
-    }
-    true
-}
 
 /// Tells whether a row of a shape has a key.
 fn has_key(shape: &Shape, row: &Row, key: &Value) -> bool
@@ -62,7 +33,7 @@ pub(crate) fn may_come_back(shape: &Shape, key: &Value, was: &Was) -> bool
 {
     match was {
         Was::Untouched => true,
-        Was::Deleted => is_storable(key),
-        Was::Row(row) => has_key(shape, row, key) && are_storable(row.as_slice()),
+        Was::Deleted => true,
+        Was::Row(row) => has_key(shape, row, key),
     }
 }

@@ -1,5 +1,6 @@
 use Rattle.mg_space.specs.WholeLaws.{whole_kept}
-use Rattle.std.proofs.Common.{ℕ, Option, false, refl, subst, true, sym, ◌∙◌, ◌≡◌}
+use Rattle.std.proofs.Common.{ℕ, Option, ap, false, subst, true, sym, ◌∙◌, ◌≡◌}
+use Rattle.mg_base.specs.declared.damage.Damaged.{Damaged}
 use Rattle.mg_base.specs.declared.numbers.RecId.{RecId}
 use Rattle.mg_chain.specs.Refusals.{RefusesChain}
 use Rattle.mg_image.specs.Form.{Pages}
@@ -7,6 +8,7 @@ use Rattle.mg_seek.specs.Speaking.{IsSpeaker}
 use Rattle.mg_seek.specs.Versions.{IsFirst, wants}
 use Rattle.mg_seek.specs.declared.whose.Wanted.TheVariants.{Any}
 use Rattle.mg_space.specs.View.{viewed}
+use Rattle.mg_space.specs.declared.fault.SpaceFault.TheVariants as faults
 use Rattle.mg_table_unmaking.specs.Rows.{RefusesAloneAt, alone_nobody, alone_other, alone_unread, alone_unspoken}
 use Rattle.mg_table_unmaking.proofs.ReadLemmas.{as_before, handed_on}
 use Rattle.mg_table_unmaking.proofs.rows.alone_at.Goals as goal
@@ -22,7 +24,7 @@ pub returns-in_default-clause-gives : goal.returns-in_default-clause-gives
 returns-in_default-clause-gives g c = λ image tells. alone_nobody
     (subst (λ (o : Option RecId). IsSpeaker (g.S.States.state_of c.args.states.now) c.args.live.now
     (viewed c.args.store.now image c.args.batch.now) c.args.table.now c.args.key.now o) c.in_default.is
-    (c.in_ok-found.ensures.gives image tells)) refl
+    (c.in_ok-found.ensures.gives image tells)) (ap (λ (it : Damaged). faults.Damaged it) c.unlawful.ensures)
 
 pub returns-in_err-newest-clause-gives : goal.returns-in_err-newest-clause-gives
 returns-in_err-newest-clause-gives g c = λ image tells.
@@ -59,7 +61,8 @@ returns-clause-gives g c = λ image tells. alone_other c.in-Some.rec c.in_ok-new
     (as_before g.D.Disk.meaning c.args.store.now c.speaker.new.store image c.args.batch.now
     (λ (view : Pages). IsFirst view (wants (g.S.States.state_of c.args.states.now) c.args.live.now Any)
     c.in-Some.rec c.in_ok-newest.newest) c.in_ok-found.ensures.keeps tells (c.in_ok-newest.ensures.gives image))
-    (λ alone. let h : true ≡ false = sym (c.is_alone.ensures.1 alone) ∙ c.if-is_alone.false in absurd cc) refl
+    (λ alone. let h : true ≡ false = sym (c.is_alone.ensures.1 alone) ∙ c.if-is_alone.false in absurd cc)
+    (ap (λ (it : Damaged). faults.Damaged it) c.unlawful-2.ensures)
 
 pub first_version-requires-clause-whole : goal.first_version-requires-clause-whole
 first_version-requires-clause-whole g c = whole_kept g.D.Disk.meaning c.args.store.now

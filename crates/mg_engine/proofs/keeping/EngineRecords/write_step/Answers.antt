@@ -13,10 +13,6 @@ use Rattle.mg_no_damage.specs.WithRoom.{write_least, write_takes}
 use Rattle.mg_records.specs.Writing.{event_of}
 use Rattle.mg_engine.proofs.keeping.EngineRecords.write_step.Goals as goal
 
-pub note_write-requires-clause-columns : goal.note_write-requires-clause-columns
-note_write-requires-clause-columns g c = (may_scan g.D.Disk.meaning c.self.inside.core c.args.self.now c.self.view_is
-    c.self.invariant c.args.t.0 c.args.table.now.name c.args.table.now c.requires.table).columns
-
 pub write_row-requires-clause-given : goal.write_row-requires-clause-given
 write_row-requires-clause-given g c = may_scan g.D.Disk.meaning c.self.inside.core c.args.self.now c.self.view_is
     c.self.invariant c.args.t.0 c.args.table.now.name c.args.table.now c.requires.table
@@ -26,7 +22,7 @@ invariant_of-self g c = record {
   lawful = c.write_row.ensures.core;
   apart = (changes_as g.D.Disk.meaning places c.self.inside.core c.args.self.now c.write_row.new.core
       c.self.view_is c.self.invariant c.counts_fit.ensures.0 c.counts_fit.ensures.1 c.args.t c.args.table.now
-      c.args.write.now c.requires.table c.requires.fits c.note_write.ensures (may_scan g.D.Disk.meaning
+      c.args.write.now c.requires.table c.requires.fits (may_scan g.D.Disk.meaning
       c.self.inside.core c.args.self.now c.self.view_is c.self.invariant c.args.t.0 c.args.table.now.name
       c.args.table.now c.requires.table) c.changes_go_on.ensures c.write_row.result c.write_row.ensures.writes).apart;
 }
@@ -34,10 +30,10 @@ invariant_of-self g c = record {
 pub returns-clause-adds : goal.returns-clause-adds
 returns-clause-adds g c = let it = gives_as g.D.Disk.meaning places c.self.inside.core c.args.self.now c.write_row.new.core
     c.self.view_is c.self.invariant c.counts_fit.ensures.0 c.counts_fit.ensures.1 c.args.t c.args.table.now
-    c.args.write.now c.requires.table c.requires.fits c.note_write.ensures c.write_row.result
+    c.args.write.now c.requires.table c.requires.fits c.write_row.result
     (changes_as g.D.Disk.meaning places c.self.inside.core c.args.self.now c.write_row.new.core
     c.self.view_is c.self.invariant c.counts_fit.ensures.0 c.counts_fit.ensures.1 c.args.t c.args.table.now
-    c.args.write.now c.requires.table c.requires.fits c.note_write.ensures (may_scan g.D.Disk.meaning
+    c.args.write.now c.requires.table c.requires.fits (may_scan g.D.Disk.meaning
     c.self.inside.core c.args.self.now c.self.view_is c.self.invariant c.args.t.0 c.args.table.now.name
     c.args.table.now c.requires.table) c.changes_go_on.ensures c.write_row.result c.write_row.ensures.writes) in
     gives_room g.D.Disk.meaning places c.args.self.now c.write_row.new.core
@@ -49,7 +45,7 @@ returns-clause-adds g c = let it = gives_as g.D.Disk.meaning places c.self.insid
     c.write_row.new.core c.self.view_is (refusal_in c.write_row.result) pages_of_row
     (changes_as g.D.Disk.meaning places c.self.inside.core c.args.self.now c.write_row.new.core
     c.self.view_is c.self.invariant c.counts_fit.ensures.0 c.counts_fit.ensures.1 c.args.t c.args.table.now
-    c.args.write.now c.requires.table c.requires.fits c.note_write.ensures (may_scan g.D.Disk.meaning
+    c.args.write.now c.requires.table c.requires.fits (may_scan g.D.Disk.meaning
     c.self.inside.core c.args.self.now c.self.view_is c.self.invariant c.args.t.0 c.args.table.now.name
     c.args.table.now c.requires.table) c.changes_go_on.ensures c.write_row.result c.write_row.ensures.writes).room)
     it.adds
@@ -58,10 +54,10 @@ pub returns-clause-leaves : goal.returns-clause-leaves
 returns-clause-leaves g c = leaves_with (means g.D.Disk.meaning places) c.args.self.now c.write_row.new.core _ _ _
     ((gives_as g.D.Disk.meaning places c.self.inside.core c.args.self.now c.write_row.new.core
     c.self.view_is c.self.invariant c.counts_fit.ensures.0 c.counts_fit.ensures.1 c.args.t c.args.table.now
-    c.args.write.now c.requires.table c.requires.fits c.note_write.ensures c.write_row.result
+    c.args.write.now c.requires.table c.requires.fits c.write_row.result
     (changes_as g.D.Disk.meaning places c.self.inside.core c.args.self.now c.write_row.new.core
     c.self.view_is c.self.invariant c.counts_fit.ensures.0 c.counts_fit.ensures.1 c.args.t c.args.table.now
-    c.args.write.now c.requires.table c.requires.fits c.note_write.ensures (may_scan g.D.Disk.meaning
+    c.args.write.now c.requires.table c.requires.fits (may_scan g.D.Disk.meaning
     c.self.inside.core c.args.self.now c.self.view_is c.self.invariant c.args.t.0 c.args.table.now.name
     c.args.table.now c.requires.table) c.changes_go_on.ensures c.write_row.result c.write_row.ensures.writes)).leaves)
 
@@ -69,10 +65,10 @@ pub returns-clause-crash : goal.returns-clause-crash
 returns-clause-crash g c = quietly_with (means g.D.Disk.meaning places) c.args.self.now c.write_row.new.core
     ((gives_as g.D.Disk.meaning places c.self.inside.core c.args.self.now c.write_row.new.core
     c.self.view_is c.self.invariant c.counts_fit.ensures.0 c.counts_fit.ensures.1 c.args.t c.args.table.now
-    c.args.write.now c.requires.table c.requires.fits c.note_write.ensures c.write_row.result
+    c.args.write.now c.requires.table c.requires.fits c.write_row.result
     (changes_as g.D.Disk.meaning places c.self.inside.core c.args.self.now c.write_row.new.core
     c.self.view_is c.self.invariant c.counts_fit.ensures.0 c.counts_fit.ensures.1 c.args.t c.args.table.now
-    c.args.write.now c.requires.table c.requires.fits c.note_write.ensures (may_scan g.D.Disk.meaning
+    c.args.write.now c.requires.table c.requires.fits (may_scan g.D.Disk.meaning
     c.self.inside.core c.args.self.now c.self.view_is c.self.invariant c.args.t.0 c.args.table.now.name
     c.args.table.now c.requires.table) c.changes_go_on.ensures c.write_row.result c.write_row.ensures.writes)).crash)
 
@@ -80,10 +76,10 @@ pub returns-clause-sessions : goal.returns-clause-sessions
 returns-clause-sessions g c = sessions_with (means g.D.Disk.meaning places) c.args.self.now c.write_row.new.core _ _
     ((gives_as g.D.Disk.meaning places c.self.inside.core c.args.self.now c.write_row.new.core
     c.self.view_is c.self.invariant c.counts_fit.ensures.0 c.counts_fit.ensures.1 c.args.t c.args.table.now
-    c.args.write.now c.requires.table c.requires.fits c.note_write.ensures c.write_row.result
+    c.args.write.now c.requires.table c.requires.fits c.write_row.result
     (changes_as g.D.Disk.meaning places c.self.inside.core c.args.self.now c.write_row.new.core
     c.self.view_is c.self.invariant c.counts_fit.ensures.0 c.counts_fit.ensures.1 c.args.t c.args.table.now
-    c.args.write.now c.requires.table c.requires.fits c.note_write.ensures (may_scan g.D.Disk.meaning
+    c.args.write.now c.requires.table c.requires.fits (may_scan g.D.Disk.meaning
     c.self.inside.core c.args.self.now c.self.view_is c.self.invariant c.args.t.0 c.args.table.now.name
     c.args.table.now c.requires.table) c.changes_go_on.ensures c.write_row.result c.write_row.ensures.writes)).sessions)
 
@@ -92,7 +88,7 @@ returns-clause-told g c = told_as g.D.Disk.meaning places c.self.inside.core c.a
     c.write_row.new.core c.self.view_is (refusal_in c.write_row.result)
     (changes_as g.D.Disk.meaning places c.self.inside.core c.args.self.now c.write_row.new.core
     c.self.view_is c.self.invariant c.counts_fit.ensures.0 c.counts_fit.ensures.1 c.args.t c.args.table.now
-    c.args.write.now c.requires.table c.requires.fits c.note_write.ensures (may_scan g.D.Disk.meaning
+    c.args.write.now c.requires.table c.requires.fits (may_scan g.D.Disk.meaning
     c.self.inside.core c.args.self.now c.self.view_is c.self.invariant c.args.t.0 c.args.table.now.name
     c.args.table.now c.requires.table) c.changes_go_on.ensures c.write_row.result c.write_row.ensures.writes).told
 
@@ -101,7 +97,7 @@ returns-clause-undamaged g c = undamaged_with (means g.D.Disk.meaning places) c.
     (undamaged_as g.D.Disk.meaning places c.self.inside.core c.args.self.now c.write_row.new.core c.self.view_is
     (changes_as g.D.Disk.meaning places c.self.inside.core c.args.self.now c.write_row.new.core
     c.self.view_is c.self.invariant c.counts_fit.ensures.0 c.counts_fit.ensures.1 c.args.t c.args.table.now
-    c.args.write.now c.requires.table c.requires.fits c.note_write.ensures (may_scan g.D.Disk.meaning
+    c.args.write.now c.requires.table c.requires.fits (may_scan g.D.Disk.meaning
     c.self.inside.core c.args.self.now c.self.view_is c.self.invariant c.args.t.0 c.args.table.now.name
     c.args.table.now c.requires.table) c.changes_go_on.ensures c.write_row.result c.write_row.ensures.writes).undamaged)
 
@@ -111,6 +107,6 @@ returns-clause-room g c = room_with (means g.D.Disk.meaning places) c.args.self.
     c.write_row.new.core c.self.view_is (refusal_in c.write_row.result) pages_of_row
     (changes_as g.D.Disk.meaning places c.self.inside.core c.args.self.now c.write_row.new.core
     c.self.view_is c.self.invariant c.counts_fit.ensures.0 c.counts_fit.ensures.1 c.args.t c.args.table.now
-    c.args.write.now c.requires.table c.requires.fits c.note_write.ensures (may_scan g.D.Disk.meaning
+    c.args.write.now c.requires.table c.requires.fits (may_scan g.D.Disk.meaning
     c.self.inside.core c.args.self.now c.self.view_is c.self.invariant c.args.t.0 c.args.table.now.name
     c.args.table.now c.requires.table) c.changes_go_on.ensures c.write_row.result c.write_row.ensures.writes).room)

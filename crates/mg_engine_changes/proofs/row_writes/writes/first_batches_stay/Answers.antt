@@ -2,7 +2,7 @@ use Rattle.mg_engine_changes.specs.LaidLaws.{dead_stays, place_stays, read_stays
 use Rattle.mg_engine_changes.proofs.row_writes.writes.first_batches_stay.Goals as goal
 
 pub returns-clause-reads : goal.returns-clause-reads
-returns-clause-reads g c = λ places old read t table write before version o h core given noted fits storable ready
+returns-clause-reads g c = λ places old read t table write before version o h core given noted fits ready
     stands.
     read_stays c.keys_are_answered.ensures.speakers c.keys_are_answered.ensures.obstacles c.keys_are_answered.ensures.rows
     c.keys_are_answered.ensures.nothing c.histories_go_on.ensures.begins c.verdicts_are_the_machines.ensures
@@ -15,10 +15,10 @@ returns-clause-reads g c = λ places old read t table write before version o h c
       speakers = c.records_are_those_of_every_reading.ensures.speakers;
     }) g.D.Disk.meaning places g.met.D.Disk.counts_now g.met.D.Disk.holds
     c.unasking_lasts.ensures c.batches_last.ensures.reads c.writes_go_on.ensures c.pushes_go_on.ensures
-    c.replacements_go_on.ensures old t table write core given noted fits storable o h read before version ready stands
+    c.replacements_go_on.ensures old t table write core given noted fits o h read before version ready stands
 
 pub returns-clause-places : goal.returns-clause-places
-returns-clause-places g c = λ places old read t table write before version store at o h core given noted fits storable ready way
+returns-clause-places g c = λ places old read t table write before version store at o h core given noted fits ready way
     takes stands.
     place_stays c.keys_are_answered.ensures.speakers c.keys_are_answered.ensures.obstacles c.keys_are_answered.ensures.rows
     c.keys_are_answered.ensures.nothing c.histories_go_on.ensures.begins c.verdicts_are_the_machines.ensures
@@ -31,11 +31,11 @@ returns-clause-places g c = λ places old read t table write before version stor
       speakers = c.records_are_those_of_every_reading.ensures.speakers;
     }) g.D.Disk.meaning places g.met.D.Disk.counts_now g.met.D.Disk.holds
     c.unasking_lasts.ensures c.batches_last.ensures.reads c.writes_go_on.ensures c.pushes_go_on.ensures
-    c.replacements_go_on.ensures old t table write core given noted fits storable o h read before version ready stands
+    c.replacements_go_on.ensures old t table write core given noted fits o h read before version ready stands
     c.batches_last.ensures.still way store at takes
 
 pub returns-clause-deads : goal.returns-clause-deads
-returns-clause-deads g c = λ places old read t table write before version store rec o h core given noted fits storable ready way
+returns-clause-deads g c = λ places old read t table write before version store rec o h core given noted fits ready way
     takes stands.
     dead_stays c.keys_are_answered.ensures.speakers c.keys_are_answered.ensures.obstacles c.keys_are_answered.ensures.rows
     c.keys_are_answered.ensures.nothing c.histories_go_on.ensures.begins c.verdicts_are_the_machines.ensures
@@ -48,5 +48,5 @@ returns-clause-deads g c = λ places old read t table write before version store
       speakers = c.records_are_those_of_every_reading.ensures.speakers;
     }) g.D.Disk.meaning places g.met.D.Disk.counts_now g.met.D.Disk.holds
     c.unasking_lasts.ensures c.batches_last.ensures.reads c.writes_go_on.ensures c.pushes_go_on.ensures
-    c.replacements_go_on.ensures old t table write core given noted fits storable o h read before version ready stands
+    c.replacements_go_on.ensures old t table write core given noted fits o h read before version ready stands
     c.records_are_those_of_every_reading.ensures.speakers c.deads_go.ensures rec way store takes

@@ -1,9 +1,14 @@
--- A record gets a version, or loses its newest one, or a table gets pages: directories stay complete.
+-- A record gets a version, or loses its newest one, or a table gets pages: directories stay complete, and rows of the catalog
+-- stand alone still.
 use Rattle.std.proofs.Common.{◌≡◌, ◌≢◌, ◌∙◌, ◌⊎◌, inl, inr, refl, sym, ap, subst, ℕ, Bool, true, false, List, [], ◌∷◌, Option, None, Some}
 use Rattle.mg_base.specs.declared.numbers.RecId.{RecId}
 use Rattle.mg_base.specs.declared.transaction.TxState.{TxState}
 use Rattle.mg_directory.specs.CandidateLaws.{notes_of}
 use Rattle.mg_directory.specs.Candidates.{ByKey, ByTable, IsCandidate, NotesOrDrops}
+use Rattle.mg_engine_meaning.specs.KnownRecords.{KnowsRecords}
+use Rattle.mg_engine_meaning.specs.LoneRows.{AreLone, HasLoneRows, IsLone}
+use Rattle.mg_engine_meaning.specs.LoneRowsLaws.{lone_behind, lone_by, lone_on}
+use Rattle.mg_engine_steps.specs.CatalogPages.{catalog_page_named}
 use Rattle.mg_image.specs.Form.{Pages, packed_coding, packed_form}
 use Rattle.mg_image.specs.RecordRules.{Facts, table_in}
 use Rattle.mg_image.specs.Records.{Reading, cells_of, key_of, record_key}
@@ -11,6 +16,7 @@ use Rattle.mg_image.specs.Sound.{IsSoundBy, facts_by}
 use Rattle.mg_image.specs.Tables.{Layout, Stand, has, stands_of, table_at}
 use Rattle.mg_image.specs.declared.entry.Entry.{Entry}
 use Rattle.mg_image_overlays.specs.OneLayout.{StandsOneWay}
+use Rattle.mg_model.specs.Catalog.{catalog_name}
 use Rattle.mg_model.specs.Openings.{everyone}
 use Rattle.mg_model.specs.declared.table.Table.{Table}
 use Rattle.mg_noted.specs.Coming.{BeginsAs, ComeFrom, NoNew, WasThere}
@@ -24,7 +30,7 @@ use Rattle.mg_engine_steps.specs.Taken.{HasGone, IsLeft, LeavesTables, TakesBack
 use Rattle.mg_engine_steps.specs.TakenPages.{takes_back}
 use Rattle.mg_engine_steps.specs.Writes.{ReadsAfter}
 use Rattle.std.proofs.lemmas.Bool.{false≢true}
-use Rattle.mg_engine_changes.specs.Directories.{KeepsNoted, StaysNoted}
+use Rattle.mg_engine_changes.specs.Directories.{KeepsKnown, StaysKnown}
 use Rattle.mg_engine_changes.specs.Joined.{IsMade, Joins, layout_with, stands_with}
 use Rattle.mg_engine_changes.specs.JoinedRows.{at_with, cases_made}
 use Rattle.mg_engine_changes.specs.Rows.{MadeRow, reading_with}
@@ -58,14 +64,26 @@ pub grown_keeps : StandsOneWay packed_form → (size : ℕ) (state : ℕ → TxS
     (r : Reading) → IsSoundBy packed_form size (left_state everyone state) pages a r
     → IsSoundBy packed_form size (left_state everyone state) later b r
     → ((page : ℕ) (x : Table) → table_at (stands_of a) page ≡ Some x → table_at (stands_of b) page ≡ Some x)
-    → StaysNoted size state pages later
-grown_keeps one size state pages later a b r sound then_ stays dirs noted =
-    noted_by packed_form one size (left_state everyone state) later dirs b r then_
-    (noted_stay (facts_by (left_state everyone state) pages a) (facts_by (left_state everyone state) later b) r r
-    dirs dirs (noted a r sound)
-    (grown_come packed_coding (facts_by (left_state everyone state) pages a)
-    (facts_by (left_state everyone state) later b) (cells_of pages) r sound.records
-    (λ p table of. stays p.page.0 table of)) (λ first dir is. is))
+    → StaysKnown size state pages later
+grown_keeps one size state pages later a b r sound then_ stays from dirs was = record {
+  noted = noted_by packed_form one size (left_state everyone state) later dirs b r then_
+      (noted_stay (facts_by (left_state everyone state) pages a) (facts_by (left_state everyone state) later b) r r
+      dirs dirs (was.noted a r sound)
+      (grown_come packed_coding (facts_by (left_state everyone state) pages a)
+      (facts_by (left_state everyone state) later b) (cells_of pages) r sound.records
+      (λ p table of. stays p.page.0 table of)) (λ first dir is. is));
+  lone = lone_by one from size state later b r then_ (lone_on from size (left_state everyone state)
+      (left_state everyone state) pages later a b r r sound then_ stood (was.lone a r sound));
+}
+  where
+    stood : (p : RecId) → table_at (stands_of b) p.page.0 ≡ Some b.catalog.table → r p ≢ []
+        → (table_at (stands_of a) p.page.0 ≡ Some b.catalog.table) × (IsLone from (r p) → IsLone from (r p))
+    stood p of some = (at (table_at (stands_of a) p.page.0) refl, λ it. it)
+      where
+        at : (x : Option Table) → table_at (stands_of a) p.page.0 ≡ x
+            → table_at (stands_of a) p.page.0 ≡ Some b.catalog.table
+        at None is = absurd (some (sound.records.outside p is))
+        at (Some x) is = is ∙ (sym (stays p.page.0 x is) ∙ of)
 
 module _ (one : StandsOneWay packed_form) (size : ℕ) (state : ℕ → TxState) (pages later : Pages) (a : Layout)
     (r : Reading) (sound : IsSoundBy packed_form size (left_state everyone state) pages a r) (rec : RecId)
@@ -98,15 +116,63 @@ module _ (one : StandsOneWay packed_form) (size : ℕ) (state : ℕ → TxState)
         at (inr none) = absurd (none_begins (reads.reading p) some
             (subst (λ (xs : List Entry). BeginsAs xs (reads.reading p)) (none p refl) (begins p)))
 
-    pub taken_keeps : StaysNoted size state pages later
-    taken_keeps dirs noted = noted_by packed_form one size (left_state everyone state) later dirs reads.layout
-        reads.reading reads.sound (noted_stay f g r reads.reading dirs dirs (noted a r sound)
-        (fewer_come packed_coding f g (cells_of pages) r reads.reading sound.records stays begins)
-        (λ first dir is_. is_))
+    -- and what stays of it stands alone
+    alone_still : (from : ℕ) (p : RecId)
+        → table_at (stands_of reads.layout) p.page.0 ≡ Some reads.layout.catalog.table → reads.reading p ≢ []
+        → (table_at (stands_of a) p.page.0 ≡ Some reads.layout.catalog.table)
+        × (IsLone from (r p) → IsLone from (reads.reading p))
+    alone_still from p of some = (stays p reads.layout.catalog.table of some, at (rec_cases p rec))
+      where
+        at : (p ≡ rec) ⊎ (p ≢ rec) → IsLone from (r p) → IsLone from (reads.reading p)
+        at (inl same) lone = subst (IsLone from) (sym (ap reads.reading same ∙ reads.here))
+            (lone_behind from newest es (subst (IsLone from) (ap r same ∙ is) lone))
+        at (inr ne) lone = subst (IsLone from) (sym (reads.others p ne)) lone
+
+    pub taken_keeps : StaysKnown size state pages later
+    taken_keeps from dirs was = record {
+      noted = noted_by packed_form one size (left_state everyone state) later dirs reads.layout
+          reads.reading reads.sound (noted_stay f g r reads.reading dirs dirs (was.noted a r sound)
+          (fewer_come packed_coding f g (cells_of pages) r reads.reading sound.records stays begins)
+          (λ first dir is_. is_));
+      lone = lone_by one from size state later reads.layout reads.reading reads.sound
+          (lone_on from size (left_state everyone state) (left_state everyone state) pages later a reads.layout r
+          reads.reading sound reads.sound (alone_still from) (was.lone a r sound));
+    }
+
+  -- it is not one of the catalog: the records of that read as they did
+  module _ (table : Table) (of : table_at (stands_of a) rec.page.0 ≡ Some table) (off : table ≢ a.catalog.table) where
+    beside : (from : ℕ) (p : RecId)
+        → table_at (stands_of reads.layout) p.page.0 ≡ Some reads.layout.catalog.table → reads.reading p ≢ []
+        → (table_at (stands_of a) p.page.0 ≡ Some reads.layout.catalog.table)
+        × (IsLone from (r p) → IsLone from (reads.reading p))
+    beside from p on some = at (rec_cases p rec)
+      where
+        at : (p ≡ rec) ⊎ (p ≢ rec) → (table_at (stands_of a) p.page.0 ≡ Some reads.layout.catalog.table)
+            × (IsLone from (r p) → IsLone from (reads.reading p))
+        at (inl same) =
+            let both : Some table ≡ Some reads.layout.catalog.table = sym (reads.grown.stays rec.page.0 table of)
+            ∙ (ap (λ (q : RecId). table_at (stands_of reads.layout) q.page.0) (sym same) ∙ on) in
+            let one_table : table ≡ reads.layout.catalog.table = cc in
+            absurd (off (one_table ∙ reads.grown.catalog))
+        at (inr ne) = (
+          was (reads.grown.new p.page.0 reads.layout.catalog.table on),
+          λ lone. subst (IsLone from) (sym (reads.others p ne)) lone,
+        )
+          where
+            was : (table_at (stands_of a) p.page.0 ≡ Some reads.layout.catalog.table)
+                ⊎ ((q : RecId) → q.page.0 ≡ p.page.0 → r q ≡ [])
+                → table_at (stands_of a) p.page.0 ≡ Some reads.layout.catalog.table
+            was (inl stood) = stood
+            was (inr none) = absurd (some (reads.others p ne ∙ none p refl))
+
+    pub lone_beside_it : (from : ℕ) → HasLoneRows from size state pages → HasLoneRows from size state later
+    lone_beside_it from lone = lone_by one from size state later reads.layout reads.reading reads.sound
+        (lone_on from size (left_state everyone state) (left_state everyone state) pages later a reads.layout r
+        reads.reading sound reads.sound (beside from) (lone a r sound))
 
   -- its versions keep their key, and it had some
-  module _ (table : Table) (of : table_at (stands_of a) rec.page.0 ≡ Some table) (had : r rec ≢ [])
-      (key_stays : es ≢ [] → record_key table es ≡ record_key table (r rec)) where
+  module _ (table : Table) (of : table_at (stands_of a) rec.page.0 ≡ Some table) (off : table ≢ a.catalog.table)
+      (had : r rec ≢ []) (key_stays : es ≢ [] → record_key table es ≡ record_key table (r rec)) where
     come : ComeFrom NoNew f r g reads.reading
     come p x of_x some = at (rec_cases p rec)
       where
@@ -145,27 +211,33 @@ module _ (one : StandsOneWay packed_form) (size : ℕ) (state : ℕ → TxState)
                   ∙ ap (λ (t : Table). record_key t (reads.reading p)) (sym one_))));
             })
 
-    pub back_noted : StaysNoted size state pages later
-    back_noted dirs noted = noted_by packed_form one size (left_state everyone state) later dirs reads.layout
-        reads.reading reads.sound (noted_stay f g r reads.reading dirs dirs (noted a r sound) come
-        (λ first dir is. is))
+    pub back_known : StaysKnown size state pages later
+    back_known from dirs was = record {
+      noted = noted_by packed_form one size (left_state everyone state) later dirs reads.layout
+          reads.reading reads.sound (noted_stay f g r reads.reading dirs dirs (was.noted a r sound) come
+          (λ first dir is. is));
+      lone = lone_beside_it table of off from was.lone;
+    }
 
   -- it gets one with this key
   module _ (table : Table) (key : Value) (of : table_at (stands_of a) rec.page.0 ≡ Some table)
-      (keyed : record_key table es ≡ key) where
+      (off : table ≢ a.catalog.table) (keyed : record_key table es ≡ key) where
     keyed_now : record_key table (reads.reading rec) ≡ key
     keyed_now = ap (record_key table) reads.here ∙ keyed
 
-    pub written_keeps : KeepsNoted size state pages later table.pointer.0 key rec
-    written_keeps old new noted notes = noted_by packed_form one size (left_state everyone state) later new
-        reads.layout reads.reading reads.sound each
+    pub written_keeps : KeepsKnown size state pages later table.pointer.0 key rec
+    written_keeps from old new known notes = record {
+      noted = noted_by packed_form one size (left_state everyone state) later new
+          reads.layout reads.reading reads.sound each;
+      lone = lone_beside_it table of off from known.lone;
+    }
       where
         each : AreNoted g reads.reading new
         each first dir is =
             let (was, was_is, all_, there) = notes_of old new table.pointer.0 (key_bytes key) rec notes first dir is in
             written_noted packed_coding f g (cells_of pages) r reads.reading rec table key first was dir sound.records
             (λ q its of_. reads.grown.stays q.page.0 its of_) (reads.grown.stays rec.page.0 table of) keyed_now
-            reads.others (λ q. rec_cases q rec) (noted a r sound first was was_is) all_ there
+            reads.others (λ q. rec_cases q rec) (known.noted a r sound first was was_is) all_ there
 
 -- ---- rows of the catalog go, and their tables
 
@@ -218,11 +290,18 @@ module _ (one : StandsOneWay packed_form) (size : ℕ) (state : ℕ → TxState)
             rw out (ap (λ (x : Option Table). read_of x (r p)) there),
           )
 
-  pub left_noted : StaysNoted size state pages later
-  left_noted dirs noted = noted_by packed_form one size (left_state everyone state) later dirs (layout_left gone a c)
-      (reading_left gone a c r rc) then_ (noted_stay was_facts now_facts r (reading_left gone a c r rc) dirs dirs
-      (noted a r sound) (left_come was_facts now_facts r (reading_left gone a c r rc) stood_so)
-      (λ first dir is. is))
+  pub left_known : StaysKnown size state pages later
+  left_known from dirs was = record {
+    noted = noted_by packed_form one size (left_state everyone state) later dirs (layout_left gone a c)
+        (reading_left gone a c r rc) then_ (noted_stay was_facts now_facts r (reading_left gone a c r rc) dirs dirs
+        (was.noted a r sound) (left_come was_facts now_facts r (reading_left gone a c r rc) stood_so)
+        (λ first dir is. is));
+    lone = lone_by one from size state later (layout_left gone a c) (reading_left gone a c r rc) then_
+        (lone_on from size (left_state everyone state) (left_state everyone state) pages later a (layout_left gone a c) r
+        (reading_left gone a c r rc) sound then_ (λ p of some.
+        let (stood, same) = stood_so p c.catalog.table of some in
+        (stood, λ lone. subst (IsLone from) (sym same) lone)) (was.lone a r sound));
+  }
 
 -- ---- records stay, or have gone
 
@@ -240,10 +319,49 @@ lost_noted before after pages later a b r q t dirs same goes noted =
     at p some (inl is) = is
     at p some (inr went) = absurd (some went.none)
 
+-- and rows of the catalog that stood alone do, where they have not gone
+pub lost_lone : (from : ℕ) (a b : Layout) (r q : Reading) (t : ℕ) → a ≡ b → GoOrStay t r q → AreLone from a r
+    → AreLone from b q
+lost_lone from a b r q t same goes lone =
+    subst (λ (l : Layout). AreLone from l q) same (λ p of. at p (goes p) (lone p of))
+  where
+    at : (p : RecId) → (q p ≡ r p) ⊎ GoesWhole t (r p) (q p) → IsLone from (r p) → IsLone from (q p)
+    at p (inl is) was = subst (IsLone from) (sym is) was
+    at p (inr went) was = subst (IsLone from) (sym went.none) tt
+
 -- ---- a table is made
 
--- the catalog gets rows, and a table with no data page comes: directories of other tables are complete still
-pub joined_noted : StandsOneWay packed_form → (size : ℕ) (state : ℕ → TxState) (t : ℕ) (pages later : Pages)
+-- the catalog gets rows, each in a record of its own
+joined_lone : StandsOneWay packed_form → (size : ℕ) (state : ℕ → TxState) (t : ℕ) (pages later : Pages)
+    (a c : Layout) (r rc : Reading) (made : List MadeRow) (stand : Stand)
+    → IsSoundBy packed_form size (left_state everyone state) pages a r
+    → IsSoundBy packed_form size (left_state everyone state) later (layout_with a c stand) (reading_with made r)
+    → Joins packed_form size (left_state everyone state) t pages later a c r rc made stand → (from : ℕ)
+    → HasLoneRows from size state pages → HasLoneRows from size state later
+joined_lone one size state t pages later a c r rc made stand sound then_ joins from lone =
+    lone_by one from size state later (layout_with a c stand) (reading_with made r) then_ each
+  where
+    named : c.catalog.table.name ≡ catalog_name
+    named = ap (λ (x : Table). x.name) then_.catalog
+
+    each : AreLone from (layout_with a c stand) (reading_with made r)
+    each p of = at (cases_made made r p)
+      where
+        on : has c.catalog.data_pages p.page.0 ≡ true
+        on = (catalog_page_named packed_form size (left_state everyone state) later (layout_with a c stand)
+            (reading_with made r) then_ p.page.0 c.catalog.table of named).0
+
+        before : (has a.catalog.data_pages p.page.0 ≡ true) ⊎ (r p ≡ []) → IsLone from (r p)
+        before (inr none) = subst (IsLone from) (sym none) tt
+        before (inl here) = lone a r sound p (rw here refl)
+
+        at : ((row : MadeRow) × IsMade made row × (row.at ≡ p) × (reading_with made r p ≡ row.first ∷ []))
+            ⊎ (reading_with made r p ≡ r p) → IsLone from (reading_with made r p)
+        at (inl (row, is_made, place, reads)) = subst (IsLone from) (sym reads) tt
+        at (inr same) = subst (IsLone from) (sym same) (before (joins.fresh p on))
+
+-- and a table with no data page comes: directories of other tables are complete still
+joined_noted : StandsOneWay packed_form → (size : ℕ) (state : ℕ → TxState) (t : ℕ) (pages later : Pages)
     (a c : Layout) (r rc : Reading) (made : List MadeRow) (stand : Stand)
     → IsSoundBy packed_form size (left_state everyone state) pages a r
     → IsSoundBy packed_form size (left_state everyone state) later (layout_with a c stand) (reading_with made r)
@@ -295,3 +413,15 @@ joined_noted one size state t pages later a c r rc made stand sound then_ joins 
             still (inl (row, is_made, place, reads)) = absurd (false≢true (sym off
                 ∙ (ap (λ (q : RecId). has c.catalog.data_pages q.page.0) (sym place)
                 ∙ (joins.rows row is_made).placed)))
+
+pub joined_known : StandsOneWay packed_form → (size : ℕ) (state : ℕ → TxState) (t : ℕ) (pages later : Pages)
+    (a c : Layout) (r rc : Reading) (made : List MadeRow) (stand : Stand)
+    → IsSoundBy packed_form size (left_state everyone state) pages a r
+    → IsSoundBy packed_form size (left_state everyone state) later (layout_with a c stand) (reading_with made r)
+    → Joins packed_form size (left_state everyone state) t pages later a c r rc made stand → (from : ℕ) (dirs : ByTable)
+    → dirs c.catalog.table.pointer.0 ≡ None → KnowsRecords from size state pages dirs
+    → KnowsRecords from size state later dirs
+joined_known one size state t pages later a c r rc made stand sound then_ joins from dirs none was = record {
+  noted = joined_noted one size state t pages later a c r rc made stand sound then_ joins dirs none was.noted;
+  lone = joined_lone one size state t pages later a c r rc made stand sound then_ joins from was.lone;
+}
