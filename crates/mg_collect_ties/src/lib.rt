@@ -11,7 +11,7 @@
 //!
 //! Invariant: none, it keeps no state.
 //! Below: `mg_chain`, for the batch; `mg_ties`, for cells that are put and freed; `mg_collect_overlays`, for the law on
-//! overlays. Above: nobody yet; the engine, once it collects.
+//! overlays. Above: `mg_engine_collecting`.
 //! Not here: whom a dropped version would have served (`mg_generations`, `mg_snap`).
 #![tactic(auto)]
 

@@ -11,7 +11,7 @@
 //!
 //! Invariant: none, it keeps no state.
 //! Below: `mg_core_collecting`, for the call; `mg_engine_collecting`, for what stands behind each step; `mg_no_damage`, for
-//! what is read of a sound image. Above: nobody yet; the engine, once it collects.
+//! what is read of a sound image. Above: the engine, which collects.
 #![tactic(auto)]
 
 mod laws;

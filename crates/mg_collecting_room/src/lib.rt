@@ -7,7 +7,7 @@
 //! All stands in `specs/`. There is no program here: the function does nothing, and its contract is the law.
 //!
 //! Invariant: none, it keeps no state.
-//! Below: `mg_core_collecting`, for the call; `mg_free_pages`, for what a batch takes. Above: nobody yet; the engine, once it
+//! Below: `mg_core_collecting`, for the call; `mg_free_pages`, for what a batch takes. Above: the engine, which
 //! collects.
 #![tactic(auto)]
 

@@ -7,8 +7,8 @@
 //! committed, and a table that was not is taken away as a whole.
 //!
 //! Invariant: that of a core (`IsCore` of `mg_core`) is kept.
-//! Below: `mg_collecting`, for what goes of a record; `mg_core`, for the core. Above: nobody yet; the engine, once it
-//! collects what its readers come to.
+//! Below: `mg_collecting`, for what goes of a record; `mg_core`, for the core. Above: the engine, which
+//! collects records.
 //! Not here: histories, and what crashes leave (`mg_engine_collecting`).
 #![tactic(auto)]
 

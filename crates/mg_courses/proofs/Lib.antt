@@ -4,3 +4,5 @@ mod SoFar
 mod SoFarLemmas
 mod StepLemmas
 mod AnyLemmas
+mod AsideLemmas
+mod VisitedLemmas

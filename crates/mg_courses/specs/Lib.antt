@@ -1,5 +1,6 @@
 pub mod Running
 pub mod Working
+pub mod Aside
 pub mod Carrying
 pub mod CarryLaws
 pub mod QuietLaws
@@ -7,3 +8,4 @@ pub mod StopLaws
 pub mod BesideLaws
 pub mod AnyRuns
 pub mod AnyLaws
+pub mod OutsideLaws

@@ -3,8 +3,9 @@
 //!
 //! Owns: the trait `Statements`, a keeper on which statements run, with its meaning (`specs/Running`), and that every
 //! keeper of records is one, whose runs are the statements of `mg_exec` (`any`, `specs/AnyRuns`);
-//! `Tends`, a keeper whose changed pages can be written one by one;
-//! `Work`, a statement that has begun, a COMMIT among them; `start`, `step`, `take`, `run`.
+//! `Tends`, a keeper whose changed pages can be written one by one, and that collects what statements come to;
+//! `Work`, a statement that has begun, a COMMIT among them; `start`, `step`, `step_on`, `take`, `run`. The last three
+//! collect what each step visited, behind it (`specs/Aside`).
 //!
 //! What is done is said by `mg_transcript` (`Starts`, `Steps`, `Takes`, `Runs`): for each history that
 //! the keeper stood for, and each course at which the work stood. `specs/Working` says when it stands
@@ -17,6 +18,7 @@
 #![tactic(auto)]
 
 mod any;
+mod aside;
 mod laws;
 mod starting;
 mod statements;
@@ -24,6 +26,7 @@ mod stepping;
 mod tending;
 mod work;
 
+pub use aside::step_on;
 pub use laws::works_stay_beside_others;
 pub use starting::{Started, start};
 pub use statements::{Ending, Statements, Stepped};

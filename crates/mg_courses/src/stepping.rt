@@ -12,13 +12,15 @@ ghost use Rattle.mg_transcript.specs.Steps.{Runs, Takes};
 ghost use Rattle.mg_courses.specs.Running.{refusal_told, over_in, rests};
 ghost use Rattle.mg_courses.specs.Working.{IsWorkReady, IsWorkReadyIf, IsWorkAt, WorkDone};
 
-use crate::statements::{Statements, Stepped};
-use crate::work::{Work, step};
+use crate::aside::step_on;
+use crate::statements::Stepped;
+use crate::tending::Tends;
+use crate::work::Work;
 use mg_base::TxNo;
 use std::alloc::Global;
 
 /// Makes steps of a statement until it waits or is at its end.
-pub fn run<R: Statements>(r: &mut R, alloc: Global, t: TxNo, work: &mut Work<R::Run>) -> Stepped
+pub fn run<R: Tends>(r: &mut R, alloc: Global, t: TxNo, work: &mut Work<R::Run>) -> Stepped
 where
     R::Run: Drop,
     requires ready { IsWorkReady R.meaning R.runs r.old t work.old }
@@ -30,9 +32,9 @@ where
     ensures frames { Frames R.meaning r.old r.new t.0 (refusal_told result) }
     ensures sessions { SessionsStay R.meaning r.old r.new None (over_in t.0 result) }
 {
-    let mut stepped = step(r, alloc, t, work);
+    let mut stepped = step_on(r, alloc, t, work);
     while stepped.is_more() {
-        stepped = step(r, alloc, t, work);
+        stepped = step_on(r, alloc, t, work);
     }
     stepped
 }
@@ -45,7 +47,7 @@ fn is_left(left: u32, stepped: &Stepped) -> bool
 }
 
 /// Makes so many steps of a statement, fewer where it waits or is at its end before.
-pub fn take<R: Statements>(
+pub fn take<R: Tends>(
     r: &mut R,
     alloc: Global,
     t: TxNo,
@@ -63,10 +65,10 @@ where
     ensures frames { Frames R.meaning r.old r.new t.0 (refusal_told result) }
     ensures sessions { SessionsStay R.meaning r.old r.new None (over_in t.0 result) }
 {
-    let mut stepped = step(r, alloc, t, work);
+    let mut stepped = step_on(r, alloc, t, work);
     let mut left = most - 1;
     while is_left(left, &stepped) {
-        stepped = step(r, alloc, t, work);
+        stepped = step_on(r, alloc, t, work);
         left -= 1;
     }
     stepped

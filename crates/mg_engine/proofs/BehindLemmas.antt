@@ -89,7 +89,7 @@ module _ {R P : Type 0} (m : Means R P) (old mid new : R) (first : Reads m old m
     written = λ u other was. second.written u other (first.commits.written u refl was);
   }
 
-  reads_behind : (refusal : Option Refusal) (walks : Option ℕ) → Reads m mid new refusal walks
+  pub reads_behind : (refusal : Option Refusal) (walks : Option ℕ) → Reads m mid new refusal walks
       → Reads m old new refusal walks
   reads_behind refusal walks second = record {
     stays = λ o h stands. second.stays o h (first.stays o h stands);
@@ -109,7 +109,7 @@ module _ {R P : Type 0} (m : Means R P) (old mid new : R) (first : Reads m old m
   }
 
   -- of what a crash might have left since an earlier moment the second call leaves what the first one did
-  quiet_behind : (refusal : Option Refusal) → Keeps m mid new refusal → LeavesQuietly m old mid
+  pub quiet_behind : (refusal : Option Refusal) → Keeps m mid new refusal → LeavesQuietly m old mid
       → LeavesQuietly m mid new → LeavesQuietly m old new
   quiet_behind refusal keeps one two o h stands told = record {
     each = λ c left. at c (behind.before (m.moment old) c ((first.keeps.time told).later) left);
@@ -135,7 +135,7 @@ module _ {R P : Type 0} (m : Means R P) (old mid new : R) (first : Reads m old m
           on (inl left) = inl left
           on (inr holds) = inr (keeps.holds o h (durable_count h) c holds)
 
-  sessions_behind : (begins ends : Option ℕ) → SessionsStay m old mid None None → SessionsStay m mid new begins ends
+  pub sessions_behind : (begins ends : Option ℕ) → SessionsStay m old mid None None → SessionsStay m mid new begins ends
       → SessionsStay m old new begins ends
   sessions_behind begins ends one two = record {
     free = λ session other was. two.free session other (one.free session refl was);

@@ -4,6 +4,8 @@ mod EngineLemmas
 mod BeginLemmas
 mod BehindLemmas
 mod ChangingLemmas
+mod CollectLemmas
+mod KeyCollectLemmas
 mod GivenLemmas
 mod MakingLemmas
 mod NotingLemmas

@@ -1,6 +1,0 @@
-pub mod Changing
-pub mod Engines
-pub mod Keyed
-pub mod KeeperLaws
-pub mod Noting
-pub mod Places

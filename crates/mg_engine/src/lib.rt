@@ -12,6 +12,7 @@
 #![tactic(auto)]
 
 mod changing;
+mod collecting;
 mod engine;
 mod keeping;
 mod keyed;

@@ -1,6 +1,7 @@
 pub mod CoreStays
 pub mod DropReads
 pub mod LeftVersions
+pub mod PlaceLeaves
 pub mod PlaceNamed
 pub mod PlaceStays
 pub mod PlaceTells
@@ -9,3 +10,4 @@ pub mod RunStays
 pub mod StepKeeps
 pub mod StepSays
 pub mod StepStays
+pub mod Versions

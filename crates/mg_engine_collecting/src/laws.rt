@@ -1,5 +1,6 @@
 //! A collection leaves the history as it was. The functions do nothing: their contracts are the laws.
 
+ghost use Rattle.mg_engine_collecting.specs.PlaceLeaves.{CollectionsLeave};
 ghost use Rattle.mg_engine_collecting.specs.PlaceStays.{CollectionsAreNobodys};
 ghost use Rattle.mg_engine_collecting.specs.PlaceTells.{CollectionsTell};
 ghost use Rattle.mg_engine_collecting.specs.Remains.{RemainsStand};
@@ -44,6 +45,13 @@ pub fn collections_are_nobodys<D: Disk, P>()
     tables_of_layouts_are_walked();
     batches_last::<D, FireLinks>();
     page_writes_go_on::<D, FireLinks>();
+}
+
+/// What is left of it is what remains by the history that the engine stands for.
+pub fn collections_leave<D: Disk, P>()
+    ensures { CollectionsLeave D P D.meaning }
+{
+    tables_of_layouts_are_walked();
 }
 
 /// It tells each fault of the disk.

@@ -3,7 +3,8 @@
 //! Owns: that what remains of a record's versions stands for the same history of its key, whose bases are those of the
 //! engine's memory (`RemainsStand`), so views, the database and obstacles are told as before; that each step of a
 //! collection keeps every overlay, whoever is chosen (`StepKeeps`); and that the collection of a record at a place is
-//! nobody's event (`CollectionsAreNobodys`), and tells each fault of the disk (`CollectionsTell`).
+//! nobody's event (`CollectionsAreNobodys`), and tells each fault of the disk (`CollectionsTell`); and which versions an
+//! engine keeps of a record (`specs/Versions`), with what is left of it then, by the history (`CollectionsLeave`).
 //!
 //! The last is made so. `DropReads` has what is read of a record once a version is dropped; `LeftVersions`, that records go
 //! on to have the versions of a history where one has fewer that say the same (`SaysTheSame`); `StepSays`, that those of
@@ -17,11 +18,14 @@
 //! Invariant: none, it keeps no state.
 //! Below: `mg_collecting` and `mg_core_collecting`, for the steps, what remains, and the call; `mg_generations`, for chains
 //! with gaps; `mg_collect_ties`, for the batches; `mg_engine_steps` and `mg_engine_changes`, for what an engine stands for.
-//! Above: nobody yet; the engine, once it collects.
+//! Above: the engine, which collects.
 //! Not here: that no page is taken (`mg_collecting_room`), and that no damage is met over a sound image
 //! (`mg_collecting_damage`).
 #![tactic(auto)]
 
 mod laws;
 
-pub use laws::{collections_are_nobodys, collections_stand, collections_tell_faults, steps_keep};
+pub use laws::{
+    collections_are_nobodys, collections_leave, collections_stand, collections_tell_faults,
+    steps_keep,
+};

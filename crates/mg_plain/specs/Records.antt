@@ -19,6 +19,7 @@ use Rattle.mg_records.specs.Meaning.{Means}
 use Rattle.mg_records.specs.Keeping.{refusal_in}
 use Rattle.mg_records.specs.Reading.{shape_named}
 use Rattle.mg_records.specs.Writing.{InsertsEach}
+use Rattle.mg_tending.specs.Collecting.{Collecting}
 use Rattle.mg_plain.specs.Obeying.{is_inner, ViewsStay}
 use Rattle.mg_plain.specs.declared.plain.Plain.{Plain}
 use Rattle.mg_plain.specs.Keeping.{Grows, Keeping, StandsFor, session_in, told_in}
@@ -81,6 +82,15 @@ means = record {
   most_writes = λ p. None;
   down = λ p. None;
   is_size = λ p size. is_page_size size;
+}
+
+-- It keeps the history and computes each row from that, so there is no version at any place.
+abbrev pub keeps_none : Collecting Plain ℕ
+keeps_none = record {
+  has_record = λ p table place. Unit {0};
+  kept = λ p place versions. versions ≡ [];
+  speaks = λ p table key place. Unit {0};
+  silent = λ p table key. Unit {0};
 }
 
 -- Rows were brought into the catalog one after another, until one was refused.

@@ -9,6 +9,7 @@ use Rattle.mg_model.specs.declared.refusal.Refusal.{Refusal}
 use Rattle.mg_model.specs.Changes.{Cells}
 use Rattle.mg_model.specs.History.{Entries}
 use Rattle.mg_records.specs.Meaning.{Means}
+use Rattle.mg_tending.specs.Collecting.{Collecting}
 use Rattle.mg_trace.specs.declared.trace.Trace.{Trace}
 use Rattle.mg_trace.specs.Putting.{AddsLine}
 
@@ -42,6 +43,15 @@ via m keeper knows = record {
   most_writes = λ t. m.most_writes (keeper t);
   down = λ t. m.down (keeper t);
   is_size = λ t. m.is_size (keeper t);
+}
+
+-- and it keeps of records what that keeper keeps
+abbrev pub collecting_via : {R P T : Type 0} → Collecting R P → (T → R) → Collecting T P
+collecting_via c keeper = record {
+  has_record = λ t. c.has_record (keeper t);
+  kept = λ t. c.kept (keeper t);
+  speaks = λ t. c.speaks (keeper t);
+  silent = λ t. c.silent (keeper t);
 }
 
 -- the line of a finding is put, with what it was answered

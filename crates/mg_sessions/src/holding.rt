@@ -19,7 +19,7 @@ ghost use Rattle.mg_sessions.specs.Coming.{ComesTo, IsKept};
 ghost use Rattle.mg_sessions.specs.Moves.{Moves};
 
 use crate::statements::go_on;
-use mg_courses::{Statements, take};
+use mg_courses::{Tends, take};
 use mg_pending::{Sessions, held_by};
 use mg_rows::StatementFault;
 use mg_script::{Reply, Session};
@@ -27,7 +27,7 @@ use mg_transcript::Spoken;
 use std::alloc::Global;
 
 /// Obeys `@step A n`: so many steps of the statement that a session holds.
-pub(crate) fn obey_step<R: Statements>(
+pub(crate) fn obey_step<R: Tends>(
     r: &mut R,
     alloc: Global,
     sessions: &mut Sessions<R::Run>,
@@ -57,7 +57,7 @@ where
 }
 
 /// Obeys `@go A`: the statement that a session holds goes on until it waits or is at its end.
-pub(crate) fn obey_go<R: Statements>(
+pub(crate) fn obey_go<R: Tends>(
     r: &mut R,
     alloc: Global,
     sessions: &mut Sessions<R::Run>,
@@ -82,7 +82,7 @@ where
 }
 
 /// The statement at a place goes on until it waits or is at its end.
-pub fn resume<R: Statements>(
+pub fn resume<R: Tends>(
     r: &mut R,
     alloc: Global,
     sessions: &mut Sessions<R::Run>,

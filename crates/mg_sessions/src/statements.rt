@@ -24,7 +24,7 @@ ghost use Rattle.mg_sessions.specs.Lines.{IsReadFor};
 ghost use Rattle.mg_sessions.specs.Moves.{Moves};
 
 use mg_base::TxNo;
-use mg_courses::{Started, Statements, Stepped, Work, run, start};
+use mg_courses::{Started, Statements, Stepped, Tends, Work, run, start};
 use mg_model::{Mode, Refusal};
 use mg_pending::{Pending, Sessions, Transaction, is_busy};
 use mg_rows::StatementFault;
@@ -34,7 +34,7 @@ use mg_statements::{Statement, let_go};
 use std::alloc::Global;
 
 /// Obeys `A: sql`: a statement of a session runs until it waits or is at its end.
-pub(crate) fn obey_sql<R: Statements>(
+pub(crate) fn obey_sql<R: Tends>(
     r: &mut R,
     alloc: Global,
     sessions: &mut Sessions<R::Run>,
@@ -170,7 +170,7 @@ where
 }
 
 // Runs a statement of a session's transaction, which has no unfinished one.
-fn run_own<R: Statements>(
+fn run_own<R: Tends>(
     r: &mut R,
     alloc: Global,
     sessions: &mut Sessions<R::Run>,
@@ -261,7 +261,7 @@ where
 
 /// Makes the steps of a session's statement until it waits or is at its end, and keeps what it came to.
 /// The session has no other unfinished statement.
-pub(crate) fn go_on<R: Statements>(
+pub(crate) fn go_on<R: Tends>(
     r: &mut R,
     alloc: Global,
     sessions: &mut Sessions<R::Run>,

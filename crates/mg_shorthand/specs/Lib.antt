@@ -1,3 +1,4 @@
 pub mod Going
 pub mod Keys
 pub mod Replies
+pub mod Visiting

@@ -21,19 +21,25 @@ use crate::putting::kv;
 use crate::reading::{has_key_and_value, value_at};
 use crate::settling::settle;
 use mg_base::{Memory, TxNo};
-use mg_courses::{Ending, Statements, Stepped, Work, run};
+use mg_courses::{Ending, Statements, Stepped, Tends, Work, run};
 use mg_expr::{Expr, Sign};
 use mg_model::{Refusal, Table};
 use mg_rows::StatementFault;
 use mg_script::Reply;
 use mg_statements::Statement;
-use mg_tending::Keyed;
+use mg_tending::{Collects, Keyed};
 use mg_value::Name;
 use std::alloc::Global;
 
 /// Does what a get is for, in its transaction, which only reads, and ends that: it reads the value that the table KV
 /// has at the key. Where KV is as a new database has it, no table is walked.
-pub fn get<R: Statements + Keyed>(r: &mut R, alloc: Global, t: TxNo, size: u32, key: i64) -> Ending
+pub fn get<R: Tends + Keyed + Collects>(
+    r: &mut R,
+    alloc: Global,
+    t: TxNo,
+    size: u32,
+    key: i64,
+) -> Ending
 where
     R::Run: Drop,
     requires size { R.meaning.is_size r.old size ≡ true }
@@ -48,7 +54,7 @@ where
 }
 
 // Tests the statement of a get, and runs it.
-fn read<R: Statements + Keyed>(
+fn read<R: Tends + Keyed + Collects>(
     r: &mut R,
     alloc: Global,
     t: TxNo,
@@ -71,7 +77,7 @@ where
 }
 
 // The statement was tested, so the table is there: it is asked for.
-fn read_on<R: Statements + Keyed>(
+fn read_on<R: Tends + Keyed + Collects>(
     r: &mut R,
     alloc: Global,
     t: TxNo,
@@ -95,7 +101,7 @@ where
 
 // The table was given: where it is as a new database has it, its row is asked for by the key, and else the statement
 // runs.
-fn read_in<R: Statements + Keyed>(
+fn read_in<R: Tends + Keyed + Collects>(
     r: &mut R,
     alloc: Global,
     t: TxNo,
@@ -123,7 +129,7 @@ where
 }
 
 // Runs the tested statement of a get.
-fn run_through<R: Statements>(r: &mut R, alloc: Global, t: TxNo, tested: R::Run) -> Ending
+fn run_through<R: Tends>(r: &mut R, alloc: Global, t: TxNo, tested: R::Run) -> Ending
 where
     R::Run: Drop,
     requires ready { R.runs.is_ready r.old t tested }

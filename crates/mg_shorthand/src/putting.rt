@@ -18,18 +18,25 @@ ghost use Rattle.mg_shorthand.specs.Keys.{sees_key, write_of};
 
 use crate::giving_up::give_up_for;
 use crate::settling::settle;
+use crate::visiting::visit_key;
 use mg_base::{Memory, TxNo};
 use mg_courses::Ending;
 use mg_model::{Refusal, Table};
 use mg_records::{Records, Write};
 use mg_script::Reply;
-use mg_tending::Keyed;
+use mg_tending::{Collects, Keyed};
 use mg_value::{Column, Key, Kind, Name, Row, Shape, Value};
 use std::alloc::Global;
 
 /// Does what a put is for, in its transaction, and ends that: the table KV gets a row with the key and the value, or
 /// the row with the key becomes this one.
-pub(crate) fn put<R: Keyed>(r: &mut R, alloc: Global, t: TxNo, key: i64, value: i64) -> Ending
+pub(crate) fn put<R: Keyed + Collects>(
+    r: &mut R,
+    alloc: Global,
+    t: TxNo,
+    key: i64,
+    value: i64,
+) -> Ending
     ensures goes { Goes R.meaning r.old r.new t result.over (λ o h after. Puts o key value h t after result.reply) }
     ensures spares { Spares R.meaning r.old r.new t (refusal_answered result.reply) result.over }
 {
@@ -47,7 +54,14 @@ pub(crate) fn kv() -> Name
 }
 
 // The table was given.
-fn put_in<R: Keyed>(r: &mut R, alloc: Global, t: TxNo, table: Table, key: i64, value: i64) -> Ending
+fn put_in<R: Keyed + Collects>(
+    r: &mut R,
+    alloc: Global,
+    t: TxNo,
+    table: Table,
+    key: i64,
+    value: i64,
+) -> Ending
     requires named { table.name ≡ kv_name }
     requires given { R.meaning.table r.old t.0 table.name ≡ Some table }
     ensures goes { (o : Opening) (h : Entries) → shape_seen o h t.0 kv_name ≡ Some table.shape
@@ -63,8 +77,13 @@ fn put_in<R: Keyed>(r: &mut R, alloc: Global, t: TxNo, table: Table, key: i64, v
     }
 }
 
-// Whether the transaction sees a row with a key.
-fn find_key<R: Keyed>(r: &mut R, t: TxNo, table: &Table, key: &Key) -> Result<bool, Refusal>
+// Whether the transaction sees a row with a key. The record of the key is visited.
+fn find_key<R: Keyed + Collects>(
+    r: &mut R,
+    t: TxNo,
+    table: &Table,
+    key: &Key,
+) -> Result<bool, Refusal>
     requires given { R.meaning.table r.old t.0 table.now.name ≡ Some table.now }
     ensures given { R.meaning.table r.new t.0 table.now.name ≡ Some table.now }
     ensures sees { (o : Opening) (h : Entries) → R.meaning.stands r.old o h → state_of o h t.0 ≡ Active
@@ -75,7 +94,7 @@ fn find_key<R: Keyed>(r: &mut R, t: TxNo, table: &Table, key: &Key) -> Result<bo
         → ReadsOn R.meaning r.old r.new o h }
     ensures spares { Spares R.meaning r.old r.new t (refusal_in result) false }
 {
-    match r.row_with_key(t, table, key) {
+    match visit_key(r, t, table, key) {
         Ok(row) => Ok(row.is_some()),
         Err(refusal) => Err(refusal),
     }

@@ -18,13 +18,14 @@ ghost use Rattle.mg_shorthand.specs.Going.{SparesOn};
 ghost use Rattle.mg_shorthand.specs.Keys.{HasReadAt, are_key_and_value as are_key_and_value_of, found_of, has_key_and_value as has_key_and_value_of, with_key};
 
 use crate::putting::key_of;
+use crate::visiting::visit_key;
 use mg_base::{Memory, TxNo};
 use mg_expr::{EvalFault, Expr, Sign};
 use mg_model::{Refusal, Rows, Table};
 use mg_records::Records;
 use mg_rows::{Outcome, StatementFault, select};
 use mg_script::Reply;
-use mg_tending::Keyed;
+use mg_tending::{Collects, Keyed};
 use mg_value::{Column, Row, Shape};
 use std::alloc::Global;
 
@@ -52,8 +53,8 @@ fn is_named(column: &Column, name: &[u8]) -> bool
     column.name.as_slice() == name
 }
 
-/// Reads the value that such a table has at a key.
-pub(crate) fn value_at<R: Keyed>(
+/// Reads the value that such a table has at a key. The record of the key is visited.
+pub(crate) fn value_at<R: Keyed + Collects>(
     r: &mut R,
     alloc: Global,
     t: TxNo,
@@ -67,7 +68,7 @@ pub(crate) fn value_at<R: Keyed>(
         → HasReadAt R.meaning r.old r.new o h t key result }
     ensures spares { SparesOn R.meaning r.old r.new t None (refusal_answered result) false }
 {
-    match r.row_with_key(t, table, &key_of(key)) {
+    match visit_key(r, t, table, &key_of(key)) {
         Ok(row) => tell(r, alloc, t, table, key, row),
         Err(refusal) => Reply::No(StatementFault::Engine(refusal)),
     }

@@ -6,12 +6,12 @@ use Rattle.mg_courses.proofs.stepping.run.Goals as goal
 pub loop-alloc-init : goal.loop-alloc-init
 loop-alloc-init g c = record {
   so_far = record {
-    ready = c.step-stepped.ensures.ready;
-    frames = c.step-stepped.ensures.frames;
-    sessions = c.step-stepped.ensures.sessions;
+    ready = c.step_on-stepped.ensures.ready;
+    frames = c.step_on-stepped.ensures.frames;
+    sessions = c.step_on-stepped.ensures.sessions;
   };
-  done = runs_first g.R.Records.meaning g.R.Statements.runs c.args.r.now c.step-stepped.new.r c.args.t
-      c.args.work.now c.step-stepped.new.work c.step-stepped.result c.step-stepped.ensures.steps;
+  done = runs_first g.R.Records.meaning g.R.Statements.runs c.args.r.now c.step_on-stepped.new.r c.args.t
+      c.args.work.now c.step_on-stepped.new.work c.step_on-stepped.result c.step_on-stepped.ensures.steps;
 }
 
 pub loop-alloc-preserved : goal.loop-alloc-preserved
@@ -20,7 +20,7 @@ loop-alloc-preserved g c =
     going c.loop-alloc.stepped (sym c.is_more.ensures ∙ c.loop-alloc-test.true) in
     let so_far = rw more at c.loop-alloc.invariant.so_far in
     let done = rw more at c.loop-alloc.invariant.done in
-    let next = c.step-stepped-in-loop-alloc in
+    let next = c.step_on-stepped-in-loop-alloc in
     record {
       so_far = so_far_more g.R.Records.meaning g.R.Statements.runs g.met.R.Records.lasts c.args.r.now c.loop-alloc.r next.new.r
           c.args.t c.args.work.now c.loop-alloc.work next.new.work next.result so_far

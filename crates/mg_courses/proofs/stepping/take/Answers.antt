@@ -6,13 +6,13 @@ use Rattle.mg_courses.proofs.stepping.take.Goals as goal
 pub loop-alloc-init : goal.loop-alloc-init
 loop-alloc-init g c = record {
   so_far = record {
-    ready = c.step-stepped.ensures.ready;
-    frames = c.step-stepped.ensures.frames;
-    sessions = c.step-stepped.ensures.sessions;
+    ready = c.step_on-stepped.ensures.ready;
+    frames = c.step_on-stepped.ensures.frames;
+    sessions = c.step_on-stepped.ensures.sessions;
   };
-  done = takes_first g.R.Records.meaning g.R.Statements.runs c.args.r.now c.step-stepped.new.r c.args.t
-      c.args.work.now c.step-stepped.new.work c.step-stepped.result c.args.most c.requires.some
-      c.step-stepped.ensures.steps;
+  done = takes_first g.R.Records.meaning g.R.Statements.runs c.args.r.now c.step_on-stepped.new.r c.args.t
+      c.args.work.now c.step_on-stepped.new.work c.step_on-stepped.result c.args.most c.requires.some
+      c.step_on-stepped.ensures.steps;
 }
 
 pub loop-alloc-preserved : goal.loop-alloc-preserved
@@ -22,7 +22,7 @@ loop-alloc-preserved g c =
     let more : c.loop-alloc.stepped ≡ More = going c.loop-alloc.stepped both.1 in
     let so_far = rw more at c.loop-alloc.invariant.so_far in
     let done = rw more at c.loop-alloc.invariant.done in
-    let next = c.step-stepped-in-loop-alloc in
+    let next = c.step_on-stepped-in-loop-alloc in
     record {
       so_far = so_far_more g.R.Records.meaning g.R.Statements.runs g.met.R.Records.lasts c.args.r.now c.loop-alloc.r next.new.r
           c.args.t c.args.work.now c.loop-alloc.work next.new.work next.result so_far

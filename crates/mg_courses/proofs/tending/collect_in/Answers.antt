@@ -1,0 +1,11 @@
+use Rattle.std.proofs.Common.{ap, inr, sym, ◌∙◌}
+use Rattle.std.specs.Option.{option_copied}
+use Rattle.mg_courses.proofs.VisitedLemmas.{aside_nothing, none_visited}
+use Rattle.mg_courses.proofs.tending.collect_in.Goals as goal
+
+pub returns-in-None-clause-collects : goal.returns-in-None-clause-collects
+returns-in-None-clause-collects g c = none_visited g.R.Records.meaning g.R.Collects.collecting c.args.r.now c.args.r.now
+    c.args.run.now (inr (sym c.place.ensures ∙ ap option_copied c.in-None.is))
+
+pub returns-in-None-clause-aside : goal.returns-in-None-clause-aside
+returns-in-None-clause-aside g c = aside_nothing g.R.Records.meaning g.met.R.Records.crashes c.args.r.now
