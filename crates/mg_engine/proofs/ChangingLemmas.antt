@@ -72,7 +72,7 @@ module _ {D : Type 0} (m : Meaning D) (parts : ChangeParts m) (places : Places P
     gives = gives result is;
     told = parts.told old new t table write result is;
     undamaged = parts.whole old new t table write result core given fits is;
-    room = parts.few old new t table write result core given is;
+    room = parts.few old new t table write result core given fits is;
     apart = sessions result is;
   }
     where

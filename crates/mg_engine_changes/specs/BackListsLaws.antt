@@ -4,7 +4,10 @@ use Rattle.mg_base.specs.Disk.{Meaning}
 use Rattle.mg_base.specs.Image.{Image}
 use Rattle.mg_base.specs.declared.numbers.RecId.{RecId}
 use Rattle.mg_base.specs.declared.transaction.TxState.{TxState}
-use Rattle.mg_engine_changes.specs.RecordChanges.{back_known}
+use Rattle.mg_engine_changes.specs.RecordChanges.{back_noted, grown_keeps}
+use Rattle.mg_engine_changes.specs.EntryStages.{entries_keep_tips}
+use Rattle.mg_engine_changes.specs.PlainLaws.{grown_keeps_plain}
+use Rattle.mg_entry_steps.specs.EntryMidway.{EntriesStayMidway}
 use Rattle.mg_image_overlays.specs.OwnVersion.{FindsNewest}
 use Rattle.mg_ties.specs.Newest.{newest_found}
 use Rattle.mg_version.specs.declared.cell.Link.{Link}
@@ -26,8 +29,8 @@ use Rattle.mg_engine_changes.specs.Plain.{WritesKeepPlain}
 use Rattle.mg_engine_changes.specs.Tips.{KeepsTips, MovesKeepTips, ReplacementsKeepTips, TakingOutKeepsTips}
 use Rattle.mg_engine_steps.specs.Batches.{ReadsLast}
 use Rattle.mg_engine_steps.specs.GoesOnLaws.{pool_is_kept}
-use Rattle.mg_engine_changes.specs.TakingStepLaws.{read_midway}
-use Rattle.mg_engine_changes.specs.TakingSteps.{ComesBack, GoesOut, KeysGoOn, StandsMidway, TakesKeyOf, TakesKeysOf, no_keys, one_key}
+use Rattle.mg_engine_changes.specs.TakingStepLaws.{entry_on, read_midway}
+use Rattle.mg_engine_changes.specs.TakingSteps.{ComesBack, GoesOut, KeysGoOn, LaysEntryOf, StandsEntered, StandsMidway, TakesKeyOf, TakesKeysOf, no_keys, one_entry, one_key, some_read}
 use Rattle.mg_engine_steps.specs.Choices.{placed}
 use Rattle.mg_engine_steps.specs.Knowing.{WasChanged}
 use Rattle.mg_image_overlays.specs.Growing.{IsTableOf}
@@ -154,7 +157,8 @@ module _ (D L : Type 0) (m : Meaning D) (one : RowsAreOne packed_coding) (move :
 
 module _ {D L : Type 0} (m : Meaning D) (one : RowsAreOne packed_coding) (move : MovesKeepTips packed_form)
     (replace : ReplacementsKeepTips packed_form) (out : TakingOutKeepsTips packed_form)
-    (one_way : StandsOneWay packed_form) (go_on : KeysGoOn D L m) (kept_on : TipsStayOn) (plain : WritesKeepPlain)
+    (one_way : StandsOneWay packed_form) (stay : EntriesStayMidway packed_form D L m) (go_on : KeysGoOn D L m)
+    (kept_on : TipsStayOn) (plain : WritesKeepPlain)
     (goes_out : KeysGoOut packed_form D L m) (comes_back : KeysComeBack packed_form D L m) (o : Opening) (h : Entries)
     (e : Entry) (point : Point) (s : Standing) (start : Pool D L) (begun : Pages) (asked : Asked) (session : Sessions)
     (t : ℕ) (whole : List Change) (opening : MayBegin o) (legal : IsLegal o h) (memory : Remembers o h s)
@@ -247,6 +251,27 @@ module _ {D L : Type 0} (m : Meaning D) (one : RowsAreOne packed_coding) (move :
       (read_midway m reads size o h e point s start before taken.ready begun first i asked session t whole left opening
       legal goes taken.keeps taken.tells taken.page_size midway))
 
+  -- where an entry is laid
+  entry_keeps : (size : ℕ) (first : ShowsHistory packed_form size o h s begun) (left : List Change)
+      (before after : Pool D L) (i j : Image) → LaysEntryOf m size s t before after i j
+      → StandsMidway m size o h e t whole left s start before begun first i asked session
+      → KeepsLists size s (shown before.dirty i) (shown after.dirty j)
+  entry_keeps size first left before after i j laid midway = record {
+    tips = entries_keep_tips packed_form size (left_state everyone s.state) (shown before.dirty i) (shown after.dirty j)
+        midway.pages.layout midway.pages.reading on.entries;
+    plain = grown_keeps_plain one size o (again t left (e ∷ h)) s.state (shown before.dirty i) (shown after.dirty j)
+        midway.pages.layout on.entries.layout midway.pages.reading laid.entry.rec midway.pages.sound on.entries.sound
+        on.entries.grown (λ chosen. pool_is_kept packed_form D L size o (again t left (e ∷ h)) s.state asked session
+        before i chosen midway.cache.kept);
+    noted = grown_keeps one_way size s.state (shown before.dirty i) (shown after.dirty j) midway.pages.layout
+        on.entries.layout midway.pages.reading midway.pages.sound on.entries.sound on.entries.grown.stays;
+  }
+    where
+      on : StandsEntered m size o h e t whole left s start before after begun first i j asked session midway laid.root
+          laid.entry
+      on = entry_on m stay o h e point s start begun asked session t whole left opening legal memory goes size first before
+          after i j laid midway
+
   -- ---- all keys
 
   lists_self : (size : ℕ) (pages : Pages) → KeepsLists size s pages pages
@@ -268,12 +293,22 @@ module _ {D L : Type 0} (m : Meaning D) (one : RowsAreOne packed_coding) (move :
       (all_keep reads size first keys (without_key c.table c.key left) rest mid after k j more
       (go_on size o h e point s start before mid begun first i k asked session t whole left
       (without_key c.table c.key left) (c ∷ []) opening legal memory goes (one_key c mid k taken no_keys) midway))
+  all_keep reads size first all left rest before after i j (some_read mid keeps tells page_size more) midway =
+      subst (λ (d : DirtyPages). KeepsLists size s (shown d i) (shown after.dirty j)) keeps.dirty
+      (all_keep reads size first all left rest mid after i j more (read_midway m reads size o h e point s start before mid
+      begun first i asked session t whole left opening legal goes keeps tells page_size midway))
+  all_keep reads size first all left rest before after i j (one_entry mid k laid more) midway =
+      lists_then size (shown before.dirty i) (shown mid.dirty k) (shown after.dirty j)
+      (entry_keeps size first left before mid i k laid midway)
+      (all_keep reads size first all left rest mid after k j more (entry_on m stay o h e point s start begun asked session
+      t whole left opening legal memory goes size first before mid i k laid midway).then_)
 
 pub keys_keep_lists : (D L : Type 0) (m : Meaning D) → RowsAreOne packed_coding → MovesKeepTips packed_form
-    → ReplacementsKeepTips packed_form → TakingOutKeepsTips packed_form → StandsOneWay packed_form → KeysGoOn D L m
+    → ReplacementsKeepTips packed_form → TakingOutKeepsTips packed_form → StandsOneWay packed_form
+    → EntriesStayMidway packed_form D L m → KeysGoOn D L m
     → TipsStayOn → WritesKeepPlain → KeysGoOut packed_form D L m → KeysComeBack packed_form D L m
     → ReadsLast D L m packed_form → KeysKeepLists D L m
-keys_keep_lists D L m one move replace out one_way go_on kept_on plain goes_out comes_back reads size o h e point s
+keys_keep_lists D L m one move replace out one_way stay go_on kept_on plain goes_out comes_back reads size o h e point s
     start before after begun first i j asked session t whole left rest keys opening legal memory goes takes midway =
-    all_keep m one move replace out one_way go_on kept_on plain goes_out comes_back o h e point s start begun asked
+    all_keep m one move replace out one_way stay go_on kept_on plain goes_out comes_back o h e point s start begun asked
     session t whole opening legal memory goes reads size first keys left rest before after i j takes midway

@@ -1,5 +1,5 @@
 -- Each table has the data pages that it had, in their order, and more, key after key.
-use Rattle.std.proofs.Common.{◌≡◌, ◌⊎◌, inl, inr, refl, subst, ℕ, List, [], ◌∷◌, Option, Some}
+use Rattle.std.proofs.Common.{◌≡◌, ◌⊎◌, inl, inr, refl, sym, subst, ℕ, List, [], ◌∷◌, Option, Some}
 use Rattle.mg_base.specs.Disk.{Meaning}
 use Rattle.mg_base.specs.Image.{Image}
 use Rattle.mg_base.specs.declared.numbers.RecId.{RecId}
@@ -12,14 +12,16 @@ use Rattle.mg_ties.specs.PushTies.{written}
 use Rattle.mg_ties.specs.PutTies.{PutsGiven}
 use Rattle.mg_ties.specs.Rows.{ForEach}
 use Rattle.mg_engine_changes.specs.BackPages.{KeysKeepPages}
+use Rattle.mg_entry_steps.specs.EntryMidway.{EntriesStayMidway}
+use Rattle.mg_space.specs.View.{KeepsStore}
 use Rattle.mg_engine_steps.specs.Again.{again, without_key}
 use Rattle.mg_engine_steps.specs.Midway.{GoesBack, IsBackAt, IsMidway, KeysComeBack, KeysGoOut}
 use Rattle.mg_engine_steps.specs.Shown.{TakesKeyBack}
 use Rattle.mg_engine_steps.specs.WrittenTablePages.{HasLater, MovesKeepPages, PagesAreKeptOn, ReplacementsKeepPages, TakingOutKeepsPages}
 use Rattle.mg_engine_steps.specs.Batches.{ReadsLast}
 use Rattle.mg_engine_steps.specs.GoesOnLaws.{pool_is_kept}
-use Rattle.mg_engine_changes.specs.TakingStepLaws.{read_midway}
-use Rattle.mg_engine_changes.specs.TakingSteps.{ComesBack, GoesOut, KeysGoOn, StandsMidway, TakesKeyOf, TakesKeysOf, no_keys, one_key}
+use Rattle.mg_engine_changes.specs.TakingStepLaws.{entry_on, read_midway}
+use Rattle.mg_engine_changes.specs.TakingSteps.{ComesBack, GoesOut, KeysGoOn, StandsEntered, StandsMidway, TakesKeyOf, TakesKeysOf, no_keys, one_entry, one_key, some_read}
 use Rattle.mg_engine_steps.specs.Choices.{placed}
 use Rattle.mg_engine_steps.specs.Knowing.{WasChanged}
 use Rattle.mg_image_overlays.specs.Growing.{IsTableOf}
@@ -162,7 +164,8 @@ module _ (D L : Type 0) (m : Meaning D) (one : RowsAreOne packed_coding) (move :
 
 module _ {D L : Type 0} (m : Meaning D) (one : RowsAreOne packed_coding) (move : MovesKeepPages packed_form)
     (replace : ReplacementsKeepPages packed_form) (out : TakingOutKeepsPages packed_form)
-    (one_way : StandsOneWay packed_form) (go_on : KeysGoOn D L m) (kept_on : PagesAreKeptOn)
+    (one_way : StandsOneWay packed_form) (stay : EntriesStayMidway packed_form D L m) (go_on : KeysGoOn D L m)
+    (kept_on : PagesAreKeptOn)
     (goes_out : KeysGoOut packed_form D L m) (comes_back : KeysComeBack packed_form D L m) (o : Opening) (h : Entries)
     (e : Entry) (point : Point) (s : Standing) (start : Pool D L) (begun : Pages) (asked : Asked) (session : Sessions)
     (t : ℕ) (whole : List Change) (opening : MayBegin o) (legal : IsLegal o h) (memory : Remembers o h s)
@@ -244,6 +247,17 @@ module _ {D L : Type 0} (m : Meaning D) (one : RowsAreOne packed_coding) (move :
           (subst (λ (d : DirtyPages). IsSoundBy packed_form size (left_state everyone s.state) (shown d i)
           at_ready.pages.layout at_ready.pages.reading) taken.keeps.dirty at_ready.pages.sound) midway.pages.sound).0
 
+  -- where pages are only read the layout is as it was
+  read_layout : (size : ℕ) (first : ShowsHistory packed_form size o h s begun) (left : List Change)
+      (before ready : Pool D L) (i : Image) → KeepsStore m before ready
+      → (midway : StandsMidway m size o h e t whole left s start before begun first i asked session)
+      (then_ : StandsMidway m size o h e t whole left s start ready begun first i asked session)
+      → then_.pages.layout ≡ midway.pages.layout
+  read_layout size first left before ready i keeps midway then_ = (one_way size (left_state everyone s.state)
+      (shown before.dirty i) then_.pages.layout midway.pages.layout then_.pages.reading midway.pages.reading
+      (subst (λ (d : DirtyPages). IsSoundBy packed_form size (left_state everyone s.state) (shown d i)
+      then_.pages.layout then_.pages.reading) keeps.dirty then_.pages.sound) midway.pages.sound).0
+
   -- ---- all keys
 
   pub all_keep : ReadsLast D L m packed_form → (size : ℕ) (first : ShowsHistory packed_form size o h s begun)
@@ -265,12 +279,29 @@ module _ {D L : Type 0} (m : Meaning D) (one : RowsAreOne packed_coding) (move :
       kept_on midway.pages.layout between.pages.layout then_.pages.layout
       (one_keeps reads size first left before mid i k c.table c.key taken midway between)
       (all_keep reads size first keys (without_key c.table c.key left) rest mid after k j more between then_)
+  all_keep reads size first all left rest before after i j (some_read mid keeps tells page_size more) midway then_ =
+      let ready : StandsMidway m size o h e t whole left s start mid begun first i asked session =
+      read_midway m reads size o h e point s start before mid begun first i asked session t whole left opening legal goes
+      keeps tells page_size midway in
+      subst (λ (l : Layout). AreFrontStands (stands_of l) (stands_of then_.pages.layout))
+      (read_layout size first left before mid i keeps midway ready)
+      (all_keep reads size first all left rest mid after i j more ready then_)
+  all_keep reads size first all left rest before after i j (one_entry mid k laid more) midway then_ =
+      let on : StandsEntered m size o h e t whole left s start before mid begun first i k asked session midway laid.root
+      laid.entry =
+      entry_on m stay o h e point s start begun asked session t whole left opening legal memory goes size first before mid i
+      k laid midway in
+      kept_on midway.pages.layout on.then_.pages.layout then_.pages.layout
+      (subst (λ (l : Layout). AreFrontStands (stands_of midway.pages.layout) (stands_of l)) (sym on.layout)
+      on.entries.fronts)
+      (all_keep reads size first all left rest mid after k j more on.then_ then_)
 
 pub keys_keep_pages : (D L : Type 0) (m : Meaning D) → RowsAreOne packed_coding → MovesKeepPages packed_form
-    → ReplacementsKeepPages packed_form → TakingOutKeepsPages packed_form → StandsOneWay packed_form → KeysGoOn D L m
+    → ReplacementsKeepPages packed_form → TakingOutKeepsPages packed_form → StandsOneWay packed_form
+    → EntriesStayMidway packed_form D L m → KeysGoOn D L m
     → PagesAreKeptOn → KeysGoOut packed_form D L m → KeysComeBack packed_form D L m → ReadsLast D L m packed_form
     → KeysKeepPages D L m
-keys_keep_pages D L m one move replace out one_way go_on kept_on goes_out comes_back reads size o h e point s start
+keys_keep_pages D L m one move replace out one_way stay go_on kept_on goes_out comes_back reads size o h e point s start
     before after begun first i j asked session t whole left rest keys opening legal memory goes takes midway then_ =
-    all_keep m one move replace out one_way go_on kept_on goes_out comes_back o h e point s start begun asked session t
+    all_keep m one move replace out one_way stay go_on kept_on goes_out comes_back o h e point s start begun asked session t
     whole opening legal memory goes reads size first keys left rest before after i j takes midway then_

@@ -13,7 +13,7 @@ use Rattle.mg_engine_steps.specs.GoesOn.{HasGoneOn}
 use Rattle.mg_engine_changes.specs.BackFinds.{BackFinds}
 use Rattle.mg_engine_changes.specs.Backs.{BacksAreGivenUp, BacksGoOn, BeginsBack, EndsOver}
 use Rattle.mg_engine_changes.specs.Memory.{BacksFollow, IsBackInMemory}
-use Rattle.mg_engine_changes.specs.TakingSteps.{KeysGoOn, StandsMidway, TakesKeysOf, no_keys, one_key}
+use Rattle.mg_engine_changes.specs.TakingSteps.{KeysGoOn, StandsMidway, TakesKeysOf, no_keys, one_entry, one_key, some_read}
 use Rattle.mg_engine_changes.specs.ToTake.{AreKeysOf, KeysAreTaken, SinceAreTaken, since_point}
 use Rattle.mg_grown_catalogs.specs.Grown.{CatalogGrows}
 use Rattle.mg_image.specs.Form.{packed_form}
@@ -45,6 +45,10 @@ none_left m size o h e t s speaker law all left rest before after i j no_keys ar
 none_left m size o h e t s speaker law all left rest before after i j (one_key {keys = keys} c mid k taken more) are =
     none_left m size o h e t s speaker law keys (without_key c.table c.key left) rest mid after k j more
     (law.next c keys left are)
+none_left m size o h e t s speaker law all left rest before after i j (some_read mid keeps tells page_size more) are =
+    none_left m size o h e t s speaker law all left rest mid after i j more are
+none_left m size o h e t s speaker law all left rest before after i j (one_entry mid k laid more) are =
+    none_left m size o h e t s speaker law all left rest mid after k j more are
 
 module _ {D L : Type 0} (m : Meaning D) (since : SinceAreTaken) (begin : MidwaysBegin packed_form D L m)
     (first_shows : ShowsFirst packed_form) (go_on : KeysGoOn D L m) (openings : OpeningsBegin) (o : Opening)

@@ -3,7 +3,7 @@ use Rattle.std.proofs.Common.{◌≡◌, ℕ, List, Option, None, Some, refl, ap
 use Rattle.mg_base.specs.Disk.{Meaning}
 use Rattle.mg_base.specs.declared.numbers.RecId.{RecId}
 use Rattle.mg_core.specs.declared.parts.Core.{Core}
-use Rattle.mg_engine_changes.specs.MadeLaws.{StoreOn, on_then, own_on, read_on}
+use Rattle.mg_engine_changes.specs.MadeLaws.{StoreOn, on_then, own_on, read_on, row_on}
 use Rattle.mg_model.specs.declared.table.Table.{Table}
 use Rattle.mg_pool.specs.Pool.{IsPool}
 use Rattle.mg_pool.specs.declared.pool.Pool.{Pool}
@@ -23,20 +23,23 @@ pub record HasTaken {D : Type 0} (m : Meaning D) (old new : Core D) : Type 0 whe
 
 module _ {D : Type 0} (m : Meaning D) (t : ℕ) where
   puts_on : (a b : Pool D FireLinks) (table : Table) (rec : RecId) (write : Option Write)
-      → PutsBack m a b t table rec write → StoreOn m a b
-  puts_on a b table rec None takes = own_on m a b _ takes
-  puts_on a b table rec (Some write) puts = own_on m a b _ puts.replaces
+      → a.offline ≡ None → PutsBack m a b t table rec write → StoreOn m a b
+  puts_on a b table rec None up takes = own_on m a b _ takes
+  puts_on a b table rec (Some write) up puts = on_then m a puts.enters.entered b
+      (row_on m a puts.enters.entered table rec write up puts.enters.enters)
+      (own_on m puts.enters.entered b _ puts.enters.lays)
 
   puts_pool : (a b : Pool D FireLinks) (table : Table) (rec : RecId) (write : Option Write)
       → PutsBack m a b t table rec write → IsPool m b
   puts_pool a b table rec None takes = takes.changed.pool
-  puts_pool a b table rec (Some write) puts = puts.replaces.changed.pool
+  puts_pool a b table rec (Some write) puts = puts.enters.lays.changed.pool
 
   key_taken : (old new : Core D) (c : Change) → TakesChange m old new t c → HasTaken m old new
   key_taken old new c step = record {
     on = on_then m old.store step.takes.ready new.store
         (read_on m old.store step.takes.ready step.takes.keeps step.takes.online.1)
-        (puts_on step.takes.ready new.store step.table step.takes.rec (former c.key c.was) step.takes.puts);
+        (puts_on step.takes.ready new.store step.table step.takes.rec (former c.key c.was) step.takes.online.1
+        step.takes.puts);
     pool = puts_pool step.takes.ready new.store step.table step.takes.rec (former c.key c.was) step.takes.puts;
     same = step.same;
   }

@@ -18,12 +18,12 @@ use Rattle.mg_engine_changes.specs.BackLists.{KeepsLists, KeysKeepLists}
 use Rattle.mg_engine_changes.specs.BackPages.{KeysKeepPages}
 use Rattle.mg_engine_changes.specs.BackWalks.{BackWalksGoOn}
 use Rattle.mg_engine_changes.specs.Keys.{CoresTakeAll, HasTakenKeys}
-use Rattle.mg_engine_changes.specs.TakingSteps.{StandsMidway, TakesKeysOf, no_keys, one_key}
+use Rattle.mg_engine_changes.specs.TakingSteps.{StandsMidway, TakesKeysOf, no_keys, one_entry, one_key, some_read}
 use Rattle.mg_engine_changes.specs.ToTake.{EachChange, KeysAreTaken, SinceAreTaken, since_point}
 use Rattle.mg_engine_meaning.specs.KeptLaws.{kept_with_work}
 use Rattle.mg_engine_meaning.specs.PlainLaws.{plain_tables_from}
 use Rattle.mg_engine_meaning.specs.PlainTables.{HasPlainTables}
-use Rattle.mg_engine_meaning.specs.Standings.{AreOfKept, AreSeen, AreTold, HasTips, KeepsWritten, ShowsIt, StandsFor, StandsWhile, asked_in, asked_kept, mode_kept, session_kept, sessions_in, standing_of, undo_kept, written_kept, SeesAlike}
+use Rattle.mg_engine_meaning.specs.Standings.{AreOfKept, AreSeen, AreTold, HasTips, KeepsWritten, ShowsIt, StandsFor, StandsWhile, asked_in, asked_kept, mode_kept, session_kept, sessions_in, standing_of, undo_kept, written_kept, SeesIt}
 use Rattle.mg_engine_meaning.specs.StepLaws.{shows_of}
 use Rattle.mg_engine_meaning.specs.BasesLaws.{bases_stay}
 use Rattle.mg_engine_steps.specs.Following.{FollowsEntry}
@@ -132,6 +132,10 @@ rest_within m size o h e t s speaker keys left rest before after i j no_keys nam
 rest_within m size o h e t s speaker all left rest before after i j (one_key {keys = keys} c mid k taken more) name key has =
     without_fewer c.table c.key left name key (rest_within m size o h e t s speaker keys (without_key c.table c.key left)
     rest mid after k j more name key has)
+rest_within m size o h e t s speaker all left rest before after i j (some_read mid keeps tells page_size more) name key has =
+    rest_within m size o h e t s speaker all left rest mid after i j more name key has
+rest_within m size o h e t s speaker all left rest before after i j (one_entry mid k laid more) name key has =
+    rest_within m size o h e t s speaker all left rest mid after k j more name key has
 
 -- ---- the engine
 
@@ -584,13 +588,13 @@ module _ {D : Type 0} (m : Meaning D) (openings : OpeningsBegin) (unask : Unaski
       (subst (AreTold page) work_is (stands.kept.told t)))))))))
 
   kept_seen : (u : ℕ) (table : Table) → IsOneOf (written_kept (work_of works_now u)) table
-      → SeesAlike (tables_now u table.name) table
+      → SeesIt (tables_now u table.name) table
   kept_seen u table one = at (cases_eq u t)
     where
-      its_seen : SeesAlike (tables_now t table.name) table → u ≡ t → SeesAlike (tables_now u table.name) table
-      its_seen seen e_ = subst (λ (n : ℕ). SeesAlike (tables_now n table.name) table) (sym e_) seen
+      its_seen : SeesIt (tables_now t table.name) table → u ≡ t → SeesIt (tables_now u table.name) table
+      its_seen seen e_ = subst (λ (n : ℕ). SeesIt (tables_now n table.name) table) (sym e_) seen
 
-      at : (u ≡ t) ⊎ (u ≢ t) → SeesAlike (tables_now u table.name) table
+      at : (u ≡ t) ⊎ (u ≢ t) → SeesIt (tables_now u table.name) table
       at (inl e_) =
           let there : IsOneOf takes.has_begun.its.0.written table
           × (is_one_of takes.takes.keys (table_key table.name) ≡ false)
@@ -598,11 +602,11 @@ module _ {D : Type 0} (m : Meaning D) (openings : OpeningsBegin) (unask : Unaski
           (subst (λ (w : Option Working). IsOneOf (written_kept w) table) (ap (work_of works_now) e_ ∙ its_work) one) in
           let stays : is_among takes.takes.keys (table_key table.name) ≡ false =
           sym (one_test takes.takes.keys (table_key table.name)) ∙ there.1 in
-          its_seen (subst (λ (x : Option Table). SeesAlike x table)
+          its_seen (subst (λ (x : Option Table). SeesIt x table)
           (sym (its_tables table.name ∙ ap (λ (b : Bool). if b then None else stands.tables t table.name) stays))
           (stands.kept.seen t table (subst (λ (w : Option Working). IsOneOf (written_kept w) table) (sym work_is) there.0)))
           e_
-      at (inr ne) = subst (λ (x : Option Table). SeesAlike x table) (sym (other_tables u ne table.name))
+      at (inr ne) = subst (λ (x : Option Table). SeesIt x table) (sym (other_tables u ne table.name))
           (stands.kept.seen u table (subst (λ (w : Option Working). IsOneOf (written_kept w) table) (others_work u ne) one))
 
   kept_now : KeepsWritten old.catalog.pointer.0 works_now tables_now

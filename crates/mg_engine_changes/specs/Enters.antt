@@ -42,7 +42,9 @@ use Rattle.mg_image.specs.Form.{Pages, packed_coding, packed_form}
 use Rattle.mg_image.specs.Indexes.{IsFoundIn}
 use Rattle.mg_image.specs.Tables.{Stand, stands_of, table_at}
 use Rattle.mg_image_overlays.specs.TableOwners.{IsOneOf}
+use Rattle.mg_image_overlays.specs.Growing.{IsTableOf}
 use Rattle.mg_image_overlays.specs.KeptImages.{IsKept}
+use Rattle.mg_image_overlays.specs.Whose.{IsTableFor}
 use Rattle.mg_lasting.specs.Crashes.{HoldsAcknowledged, LeavesSince, may_last}
 use Rattle.mg_lasting.specs.Lasting.{LastsOn}
 use Rattle.mg_overlays.specs.Overlays.{left_state}
@@ -89,6 +91,11 @@ use Rattle.mg_engine_changes.specs.Befores.{BeforesAreTold}
 use Rattle.mg_engine_changes.specs.Clearing.{HasCleared}
 use Rattle.mg_engine_changes.specs.ClearingLaws.{cleared}
 use Rattle.mg_engine_changes.specs.Codes.{StoredRowsAreCoded}
+use Rattle.mg_entries.specs.Entries.{LaysEntry, PutsEntry}
+use Rattle.mg_entry_steps.specs.EntryStays.{EntriesStay}
+use Rattle.mg_entry_ties.specs.IndexPlaces.{HasRoot}
+use Rattle.mg_node.specs.declared.entry.Entry.{Entry}
+use Rattle.mg_engine_changes.specs.EntryStages.{StaysEntered, entered_stays}
 use Rattle.mg_engine_changes.specs.Kept.{MadeWritesFollow, NotesWrite, made_by, row_given}
 use Rattle.mg_directory.specs.Candidates.{Kept, NotesOrDrops, by_table}
 use Rattle.mg_image_overlays.specs.OneLayout.{StandsOneWay}
@@ -183,6 +190,16 @@ module _ (speakers : SpeakersAreTold) (befores : BeforesAreTold) (follow : MadeW
   pub there : IsShown shows.stands.shows.layout table
   there = seen_is_shown shows.stands.shows.layout table
       ((shows.stands.shows.tables t.0 counts).seen table.name table (stands.given t.0 table.name table given))
+
+  -- the table stands itself
+  table_stands : IsTableOf shows.stands.shows.layout table
+  table_stands = stands_in shows.stands.shows.layout table
+      (inr ((shows.stands.shows.tables t.0 counts).seen table.name table (stands.given t.0 table.name table given)))
+
+  pub there_is : there.its ≡ table
+  there_is = one_table packed_form core.store.geometry.size (left_state everyone (said core.list)) pages
+      shows.stands.shows.layout shows.stands.shows.reading shows.stands.shows.sound there.its table there.stands
+      table_stands there.same.name
 
   abbrev pub knows : KnowsPages core.store.geometry.size o h (standing_of core stands.numbers stands.tables)
       (shown core.store.dirty shows.image)
@@ -290,10 +307,6 @@ module _ (speakers : SpeakersAreTold) (befores : BeforesAreTold) (follow : MadeW
   codes = coded there.its table t.0 write v there.same other
       (subst (λ (x : Shape). AreFirst x.columns) there.same.shape plain_its.first) fits stored
 
-  pub entries : (at : RecId) → HasEntries (shown core.store.dirty shows.image) there.its at v
-      (row_stored table write)
-  entries at live = subst (λ (xs : List _). IsFoundIn pages xs at (row_stored table write)) (sym plain_its.no_index) tt
-
   -- ---- what stands at the key
 
   pub tells : (rec : Option RecId)
@@ -363,6 +376,26 @@ module _ (speakers : SpeakersAreTold) (befores : BeforesAreTold) (follow : MadeW
       other_numbers = number_else;
       seen = λ other_. refl;
     }
+
+  -- of the record that speaks for the key
+  module _ (rec : RecId)
+      (spoken : IsSpeaker (said core.list) core.live (shown core.store.dirty shows.image) table
+      (written_at table write) (Some rec)) where
+    pub speaks_there : shows.stands.shows.versions.speaker table.name (written_at table write) ≡ Some rec
+    speaks_there = tells (Some rec) spoken
+
+    pub placed_there : table_at (stands_of shows.stands.shows.layout) rec.page.0 ≡ Some there.its
+    placed_there = spoken_of packed_form core.store.geometry.size o h s pages shows.stands.shows table.name key rec
+        there.its there.stands there.same.name speaks_there
+
+    pub settled_there : WaysAreFree
+        → IsBefore (said core.list) core.live t.0 (shown core.store.dirty shows.image) table (Some rec) before
+        → before.way ≡ ways.Push rec
+        → IsObstacle (said core.list) core.live t.0 (shown core.store.dirty shows.image) rec None → (newest : Link)
+        → cells_of (shown core.store.dirty shows.image) rec ≡ Some (cells.Anchor newest)
+        → said core.list newest.tx.0 ≡ Committed
+    settled_there ways_free is way none newest slot = (ways_free core.store.geometry.size o h s pages shows.stands t.0
+        there.its table rec newest before placed_there slot none is).over way
 
   -- ---- it was laid
 
@@ -538,7 +571,8 @@ module _ (speakers : SpeakersAreTold) (befores : BeforesAreTold) (follow : MadeW
         (was_is : WasTold)
         (speaks : shows.stands.shows.versions.speaker table.name (written_at table write) ≡ Some rec)
         (settled : (newest : Link) → cells_of (shown core.store.dirty shows.image) rec ≡ Some (cells.Anchor newest)
-        → said core.list newest.tx.0 ≡ Committed) where
+        → said core.list newest.tx.0 ≡ Committed)
+        (found : HasEntries (shown core.store.dirty shows.image) there.its rec v (row_stored table write)) where
       pub committed_stands : (kept : Kept) → NotesIts kept rec → PushesOver m core.store after rec v → Stood kept
       committed_stands kept notes own_batch = both (λ image batch. Pushes core.store image nothing_yet batch rec v) own_batch
           was_is.1 kept rec notes
@@ -549,56 +583,34 @@ module _ (speakers : SpeakersAreTold) (befores : BeforesAreTold) (follow : MadeW
           settled pushes.newest pushes.head.slot in (
             push_on o h (made_by t table write) s s_now core.store after shows.image j own_batch.batch asked_now
                 (sessions_in core.works) shows.stands t.0 table.name key (row_given write) rec v
-                (row_stored table write) there.its lasts_now changed pushes (enters was_is) may codes (entries rec)
+                (row_stored table write) there.its lasts_now changed pushes (enters was_is) may codes found
                 speaks committed,
             pushed_leaves one one_way begins on behind keep_plain m go o h (made_by t table write) s s_now core.store after
                 shows.image j own_batch.batch asked_now (sessions_in core.works) shows.stands t.0 table.name key
                 (row_given write) rec v (row_stored table write) there.its lasts_now changed (enters was_is) may codes
-                (entries rec) speaks shows.plain_tables pushes committed,
+                found speaks shows.plain_tables pushes committed,
           ))
 
-    -- in the record that speaks for the key
+    -- in place of its own version in the record that speaks for the key
     module _ (one : RowsAreOne packed_coding) (one_way : StandsOneWay packed_form) (begins : OpeningsBegin) (on : TipsStayOn) (behind : BehindKeepsTips)
-        (keep_plain : WritesKeepPlain) (ways_free : WaysAreFree) (go : WritesGoOn D FireLinks m packed_form)
-        (push_on : PushesGoOn packed_form D FireLinks m) (replace_on : ReplacementsGoOn packed_form D FireLinks m)
-        (rec : RecId)
-        (spoken : IsSpeaker (said core.list) core.live (shown core.store.dirty shows.image) table
-        (written_at table write) (Some rec))
-        (is : IsBefore (said core.list) core.live t.0 (shown core.store.dirty shows.image) table (Some rec) before)
-      where
-        speaks : shows.stands.shows.versions.speaker table.name (written_at table write) ≡ Some rec
-        speaks = tells (Some rec) spoken
-
-        of : table_at (stands_of shows.stands.shows.layout) rec.page.0 ≡ Some there.its
-        of = spoken_of packed_form core.store.geometry.size o h s pages shows.stands.shows table.name key rec there.its
-            there.stands there.same.name speaks
-
-        entered : EntersWrite o h (made_by t table write) (standing_of core stands.numbers stands.tables) s_now
-            (asked_in (works_kept t.0 table.pointer.0 (written_at table write) before.was core.works)) t.0 table.name
-            (written_at table write) (row_given write) there.its
-        entered = enters (was_told (Some rec) spoken is)
-
-        pub pushed_stands : (kept : Kept) → NotesIts kept rec → PushesOver m core.store after rec v
-            → before.way ≡ ways.Push rec
-            → IsObstacle (said core.list) core.live t.0 (shown core.store.dirty shows.image) rec None → Stood kept
-        pushed_stands kept notes own_batch way none = committed_stands one one_way begins on behind keep_plain go push_on rec
-            (was_told (Some rec) spoken is) speaks (λ newest slot. (ways_free core.store.geometry.size o h s pages
-            shows.stands t.0 there.its table rec newest before of slot none is).over way) kept notes own_batch
-
-        pub replaced_stands : (kept : Kept) → NotesIts kept rec → ReplacesNewest m core.store after rec v → Stood kept
-        replaced_stands kept notes own_batch = both (λ image batch. Replaces core.store image nothing_yet batch rec v) own_batch
-            (was_told (Some rec) spoken is).1 kept rec notes
-            (λ j held changed.
-            let replaces : Replaces core.store shows.image fresh own_batch.batch rec v =
-            own_batch.filled shows.image told_now in (
-              replace_on o h (made_by t table write) s s_now core.store after shows.image j own_batch.batch asked_now
-                  (sessions_in core.works) shows.stands t.0 table.name key (row_given write) rec v
-                  (row_stored table write) there.its lasts_now changed replaces entered may codes (entries rec) speaks,
-              replaced_leaves one one_way begins on behind keep_plain m go o h (made_by t table write) s s_now core.store after
-                  shows.image j own_batch.batch asked_now (sessions_in core.works) shows.stands t.0 table.name key
-                  (row_given write) rec v (row_stored table write) there.its lasts_now changed entered may codes
-                  (entries rec) speaks shows.plain_tables replaces,
-            ))
+        (keep_plain : WritesKeepPlain) (go : WritesGoOn D FireLinks m packed_form)
+        (replace_on : ReplacementsGoOn packed_form D FireLinks m) (rec : RecId) (was_is : WasTold)
+        (speaks : shows.stands.shows.versions.speaker table.name (written_at table write) ≡ Some rec)
+        (found : HasEntries (shown core.store.dirty shows.image) there.its rec v (row_stored table write)) where
+      pub replaced_stands : (kept : Kept) → NotesIts kept rec → ReplacesNewest m core.store after rec v → Stood kept
+      replaced_stands kept notes own_batch = both (λ image batch. Replaces core.store image nothing_yet batch rec v) own_batch
+          was_is.1 kept rec notes
+          (λ j held changed.
+          let replaces : Replaces core.store shows.image fresh own_batch.batch rec v =
+          own_batch.filled shows.image told_now in (
+            replace_on o h (made_by t table write) s s_now core.store after shows.image j own_batch.batch asked_now
+                (sessions_in core.works) shows.stands t.0 table.name key (row_given write) rec v
+                (row_stored table write) there.its lasts_now changed replaces (enters was_is) may codes found speaks,
+            replaced_leaves one one_way begins on behind keep_plain m go o h (made_by t table write) s s_now core.store after
+                shows.image j own_batch.batch asked_now (sessions_in core.works) shows.stands t.0 table.name key
+                (row_given write) rec v (row_stored table write) there.its lasts_now changed (enters was_is) may codes
+                found speaks shows.plain_tables replaces,
+          ))
 
     -- at a place that was taken
     module _ (one : RowsAreOne packed_coding) (one_way : StandsOneWay packed_form) (begins : OpeningsBegin) (on : TipsStayOn) (behind : BehindKeepsTips)
@@ -609,7 +621,8 @@ module _ (speakers : SpeakersAreTold) (befores : BeforesAreTold) (follow : MadeW
         (standing_of core stands.numbers stands.tables) (shown core.store.dirty shows.image) shows.stands.shows
         table.name (written_at table write))
         (of : table_at (stands_of shows.stands.shows.layout) at.page.0 ≡ Some there.its)
-        (blank : cells_of (shown core.store.dirty shows.image) at ≡ None) where
+        (blank : cells_of (shown core.store.dirty shows.image) at ≡ None)
+        (found : HasEntries (shown core.store.dirty shows.image) there.its at v (row_stored table write)) where
       pub made_stands : (kept : Kept) → NotesIts kept at → MakesFirst m core.store after table.pointer.0 at v → Stood kept
       made_stands kept notes own_batch = both (λ image batch. MakesRecord core.store image nothing_yet batch table.pointer.0 at v)
           own_batch was_is.1 kept at notes (λ j held changed.
@@ -618,12 +631,12 @@ module _ (speakers : SpeakersAreTold) (befores : BeforesAreTold) (follow : MadeW
           (sym there.same.pointer) (own_batch.filled shows.image told_now) in (
             first_on o h (made_by t table write) s s_now core.store after shows.image j own_batch.batch asked_now
                 (sessions_in core.works) shows.stands t.0 table.name key (row_given write) at v
-                (row_stored table write) there.its lasts_now changed makes (enters was_is) may codes (entries at)
+                (row_stored table write) there.its lasts_now changed makes (enters was_is) may codes found
                 silent of blank,
             first_leaves one one_way begins on behind keep_plain m go o h (made_by t table write) s s_now core.store after
                 shows.image j own_batch.batch asked_now (sessions_in core.works) shows.stands t.0 table.name key
                 (row_given write) at v (row_stored table write) there.its lasts_now changed (enters was_is) may codes
-                (entries at) silent of blank shows.plain_tables makes,
+                found silent of blank shows.plain_tables makes,
           ))
 
     -- a place is taken, where no version of the key counts
@@ -693,3 +706,24 @@ module _ (speakers : SpeakersAreTold) (befores : BeforesAreTold) (follow : MadeW
 
       pub cleared_told : m.tells after.disk ≡ true
       cleared_told = told_after (λ image batch. TakesOut core.store image nothing_yet batch rec) takes
+
+    -- an entry is laid in one of the table's indexes
+    module _ (one : RowsAreOne packed_coding) (one_way : StandsOneWay packed_form)
+        (stay : EntriesStay packed_form D FireLinks m) (root : ℕ) (e : Entry) (has : HasRoot table.indexes root)
+        (lays : LaysEntry m core.store after root e) where
+      pub entry_laid : StaysEntered m o h (standing_of core stands.numbers stands.tables) core.list core.store after
+          (shown core.store.dirty shows.image) shows.stands.shows.layout shows.stands.shows.reading
+          shows.stands.shows.versions.speaker table.indexes (asked_in core.works) (sessions_in core.works) t.0 root e
+      entry_laid =
+          let (j, held, left) = holds after.disk
+          (told_after (λ image batch. PutsEntry core.store image nothing_yet batch root e) lays) in
+          entered_stays one one_way lists m stay o h s core.store after shows.image j lays.batch core.list
+          (asked_in core.works) (sessions_in core.works) shows.stands t.0 table root e shows.lasts
+          (was (λ image batch. PutsEntry core.store image nothing_yet batch root e) lays j held)
+          (lays.filled shows.image told_now) counts table_stands has
+          (subst (λ (x : Table). IsTableFor packed_form core.store.geometry.size t.0 (said core.list) pages x) there_is
+          may.whose) shows.plain_tables kept_each shows.tips
+          (lays.changed.geometry ∙ lays.keeps.geometry) held
+
+      pub entry_told : m.tells after.disk ≡ true
+      entry_told = told_after (λ image batch. PutsEntry core.store image nothing_yet batch root e) lays

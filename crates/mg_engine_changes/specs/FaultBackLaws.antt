@@ -10,6 +10,7 @@ use Rattle.mg_pool.specs.declared.pool.Pool.{Pool}
 use Rattle.mg_records.specs.TakingBack.{is_given_up}
 use Rattle.mg_records.specs.declared.write.Write.{Write}
 use Rattle.mg_batches.specs.Batches.{not_lawful}
+use Rattle.mg_row_writes.specs.Changing.{FailsReplacing, ReplacesNewest}
 use Rattle.mg_snap.specs.Live.{State}
 use Rattle.mg_space.specs.declared.fault.SpaceFault.{SpaceFault}
 use Rattle.mg_space.specs.declared.fault.SpaceFault.TheVariants as space
@@ -21,10 +22,10 @@ use Rattle.mg_undo.specs.declared.changes.Was.{Was}
 use Rattle.mg_value.specs.declared.value.Value.{Value}
 use Rattle.mg_core.specs.declared.parts.Core.{Core}
 use Rattle.mg_taking_back.specs.Changes.{FailsChange, TakesChange, change_not_taken, change_of_none}
-use Rattle.mg_taking_back.specs.Keys.{FailsKey, FailsPuttingBack, PutsBack, TakesKey, former, former_long, former_memory, former_not_put, former_unfit, key_not_put, key_unfit, key_unread}
+use Rattle.mg_taking_back.specs.Keys.{FailsKey, FailsPuttingBack, PutsBack, TakesKey, former, former_key_long, former_long, former_memory, former_not_put, former_unfit, key_not_put, key_unfit, key_unread}
 use Rattle.mg_taking_back.specs.Taking.{FailsBackTo, FailsFrom, GivesUpBy, GivesUpIf, StopsTaking, TakesBackFrom, TakesBackTo, TakesChanges, back_not_begun, back_not_copied, back_stopped, not_asking, takes_none, takes_one}
 use Rattle.mg_engine_changes.specs.FaultCoreLaws.{count, counted, ended, refused}
-use Rattle.mg_engine_changes.specs.FaultPageLaws.{is_none, met, own_stands, own_told, told}
+use Rattle.mg_engine_changes.specs.FaultPageLaws.{is_none, met, own_stands, own_told, then_stands, then_told, told}
 use Rattle.mg_faults.specs.Faults.{FaultCount}
 use Rattle.mg_engine_changes.specs.Told.{Stands, TellsRise, disk_count, is_disks}
 
@@ -37,7 +38,8 @@ module _ {D : Type 0} (m : Meaning D) (k : FaultCount) where
   puts_stand : (a b : Pool D FireLinks) (t : ℕ) (table : Table) (rec : RecId) (write : Option Write)
       → PutsBack m a b t table rec write → Stands m k a b
   puts_stand a b t table rec None puts = own_stands m k a b puts
-  puts_stand a b t table rec (Some write) puts = own_stands m k a b puts.replaces
+  puts_stand a b t table rec (Some write) puts = then_stands m k a b table rec write
+      (λ e. ReplacesNewest m e b rec puts.version) (λ e own. own_stands m k e b own) puts.enters
 
   puts_told : (a b : Pool D FireLinks) (t : ℕ) (table : Table) (rec : RecId) (write : Option Write)
       (fault : SpaceFault) → FailsPuttingBack m a b t table rec write fault → is_disks k fault ≡ false → Stands m k a b
@@ -45,8 +47,9 @@ module _ {D : Type 0} (m : Meaning D) (k : FaultCount) where
   puts_told a b t table rec (Some write) fault (former_unfit not is same) quiet = same_pool a b same
   puts_told a b t table rec (Some write) fault (former_memory is same) quiet = same_pool a b same
   puts_told a b t table rec (Some write) fault (former_long v stored not is same) quiet = same_pool a b same
-  puts_told a b t table rec (Some write) fault (former_not_put v stored may fails) quiet =
-      own_told m k a b fault fails quiet
+  puts_told a b t table rec (Some write) fault (former_key_long not is same) quiet = same_pool a b same
+  puts_told a b t table rec (Some write) fault (former_not_put v stored may short fails) quiet = then_told m k a b table
+      rec write (λ e given. FailsReplacing m e b rec v given) fault (λ e own. own_told m k e b fault own) fails quiet
 
   key_stands : (a b : Pool D FireLinks) (state : ℕ → TxState) (live : State) (t : ℕ) (table : Table) (key : Value)
       (was : Was) → TakesKey m a b state live t table key was → Stands m k a b

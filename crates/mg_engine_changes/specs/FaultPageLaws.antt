@@ -125,7 +125,7 @@ module _ {D : Type 0} (m : Meaning D) (k : FaultCount) where
   row_stands a b table rec (writes.Erase key) same = same_stands a b same
 
   -- and then a version is
-  then_stands : (a b : Pool D FireLinks) (table : Table) (rec : RecId) (write : Write)
+  pub then_stands : (a b : Pool D FireLinks) (table : Table) (rec : RecId) (write : Write)
       (puts : Pool D FireLinks → Type 0) → ((e : Pool D FireLinks) → puts e → Stands m k e b)
       → EntersThen m a table rec write puts → Stands m k a b
   then_stands a b table rec write puts each it =
@@ -142,7 +142,7 @@ module _ {D : Type 0} (m : Meaning D) (k : FaultCount) where
   row_told a b table rec (writes.Change key row) fault fails quiet = all_told table.indexes rec row a b fault fails quiet
   row_told a b table rec (writes.Erase key) fault fails quiet = absurd fails
 
-  then_told : (a b : Pool D FireLinks) (table : Table) (rec : RecId) (write : Write)
+  pub then_told : (a b : Pool D FireLinks) (table : Table) (rec : RecId) (write : Write)
       (fails : Pool D FireLinks → SpaceFault → Type 0) (fault : SpaceFault)
       → ((e : Pool D FireLinks) → fails e fault → is_disks k fault ≡ false → Stands m k e b)
       → FailsThen m a b table rec write fails fault → is_disks k fault ≡ false → Stands m k a b

@@ -1,12 +1,13 @@
 -- What a step of the core tells of a key that is taken back, and what an engine knows of its table, make a step of the
 -- laws.
-use Rattle.std.specs.Prelude.{◌≡◌, ◌⊎◌, ℕ, true, List, [], ◌∷◌, Option, Some}
+use Rattle.std.specs.Prelude.{◌≡◌, ◌⊎◌, ℕ, true, List, ◌∷◌, Option, Some}
 use Rattle.mg_base.specs.Disk.{Meaning}
 use Rattle.mg_base.specs.Image.{Image}
 use Rattle.mg_base.specs.declared.numbers.RecId.{RecId}
 use Rattle.mg_base.specs.declared.transaction.TxState.TheVariants.{Active}
+use Rattle.mg_engine_changes.specs.Found.{IsItsRecord}
 use Rattle.mg_engine_changes.specs.TakingSteps.{StandsMidway, TakesKeyOf}
-use Rattle.mg_engine_steps.specs.Knowing.{CodesRow, MayWriteInto}
+use Rattle.mg_engine_steps.specs.Knowing.{CodesRow, HasEntries, MayWriteInto}
 use Rattle.mg_image.specs.Form.{Pages, Row, packed_coding, packed_form}
 use Rattle.mg_image.specs.Records.{Reading}
 use Rattle.mg_image.specs.Tables.{Layout}
@@ -36,12 +37,11 @@ use Rattle.mg_version.specs.declared.cell.Version.{Version}
 
 -- ---- the table
 
--- A table of the layout, plain, has this name, and the transaction may write into it.
+-- A table of the layout has this name, and the transaction may write into it.
 pub record IsTableOfIts (size : ℕ) (s : Standing) (pages : Pages) (layout : Layout) (reading : Reading) (t : ℕ)
     (name : List ℕ) (its : Table) : Type 0 where
   pub may : MayWriteInto packed_form size s.state pages layout reading t its
   pub named : its.name ≡ name
-  pub plain : its.indexes ≡ []
 
 -- ---- the record, and what comes back in it
 
@@ -52,19 +52,21 @@ pub record FindsIts (s : Standing) (pages : Pages) (t : ℕ) (its : Table) (key 
   pub is_first : IsFirst pages (wants s.state s.live Any) rec (Some newest)
   pub own : newest.version.tx.0 ≡ t
 
--- The version of the former row, or deletion, is put in place of the newest one.
-pub record PutsFormer {D : Type 0} (m : Meaning D) (before after : Pool D FireLinks) (t : ℕ) (its : Table)
+-- The version of the former row, or deletion, is put in place of the newest one; the row has its entries.
+pub record PutsFormer {D : Type 0} (m : Meaning D) (before after : Pool D FireLinks) (i : Image) (t : ℕ) (its : Table)
     (key : Value) (rec : RecId) (left : List Change) : Type 0 where
   pub row : Option Cells
   pub version : Version
   pub stored : Row
   pub replaces : ReplacesNewest m before after rec version
   pub codes : CodesRow packed_coding its version stored t key row
+  pub entries : HasEntries (shown before.dirty i) its rec version stored
   pub was : was_in left its.name key ≡ was_given row
 
 -- The newest version is taken out, where the transaction had not changed the key.
-pub record TakesItOut {D : Type 0} (m : Meaning D) (before after : Pool D FireLinks) (its : Table) (key : Value)
-    (rec : RecId) (left : List Change) : Type 0 where
+pub record TakesItOut {D : Type 0} (m : Meaning D) (s : Standing) (before after : Pool D FireLinks) (i : Image) (t : ℕ)
+    (its : Table) (key : Value) (rec : RecId) (left : List Change) : Type 0 where
+  pub finds : FindsIts s (shown before.dirty i) t its key rec
   pub takes : TakesNewestOut m before after rec
   pub was : was_in left its.name key ≡ Untouched
 
@@ -78,9 +80,8 @@ pub record TakesKeyAt {D : Type 0} (m : Meaning D) (size : ℕ) (o : Opening) (h
   pub ready : Pool D FireLinks
   pub keeps : KeepsStore m before ready
   pub rec : RecId
-  pub finds : FindsIts s (shown before.dirty i) t its key rec
-  pub puts : TakesItOut m ready after its key rec (own o (e ∷ h) t)
-      ⊎ PutsFormer m ready after t its key rec (own o (e ∷ h) t)
+  pub puts : TakesItOut m s ready after i t its key rec (own o (e ∷ h) t)
+      ⊎ PutsFormer m ready after i t its key rec (own o (e ∷ h) t)
   pub held : m.held after.disk ≡ Some j
   pub told : m.tells after.disk ≡ true
 
@@ -94,5 +95,6 @@ KeyStepsAreTaken D m = (size : ℕ) (o : Opening) (h : Entries) (e : Entry) (t :
     → IsLegal o h → Remembers o h s → s.state t ≡ Active → (name : List ℕ) (key : Value) (its : Table)
     → has_change left name key ≡ true
     → IsTableOfIts size s (shown before.dirty i) midway.pages.layout midway.pages.reading t name its
-    → TakesKeyAt m size o h e s t before after i j its key
+    → (step : TakesKeyAt m size o h e s t before after i j its key)
+    → IsItsRecord size o h e t whole left s begun (shown before.dirty i) first midway.pages its key step.rec
     → TakesKeyOf m size o h e t s first.versions.speaker left before after i j name key

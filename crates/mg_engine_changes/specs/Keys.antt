@@ -1,10 +1,11 @@
 -- Keys are taken back by the core, one after another.
-use Rattle.std.specs.Prelude.{◌≡◌, ◌≢◌, ◌∷◌, ◌++◌, ℕ, true, List, map}
+use Rattle.std.specs.Prelude.{◌≡◌, ◌≢◌, ◌∷◌, ◌++◌, ℕ, true, List, [], map}
 use Rattle.mg_base.specs.Disk.{Meaning}
 use Rattle.mg_base.specs.Image.{Image}
 use Rattle.mg_core.specs.declared.parts.Core.{Core}
 use Rattle.mg_engine_meaning.specs.Standings.{KeepsWritten}
 use Rattle.mg_engine_steps.specs.Standing.{Remembers, ShowsHistory, Standing}
+use Rattle.mg_engine_changes.specs.Stopping.{EntersBack}
 use Rattle.mg_engine_changes.specs.Takings.{KnowsCache}
 use Rattle.mg_engine_changes.specs.TakingSteps.{StandsMidway, TakesKeysOf}
 use Rattle.mg_engine_changes.specs.ToTake.{AreKeysOf, EachChange}
@@ -67,3 +68,16 @@ CoresTakeAll D m = (core old new : Core D) (s : Standing) (size : ℕ) (o : Open
     → KnowsCache m size s before i → HasCatalog core before i
     → HasTakenKeys m size o h e t whole left keys more s start before begun first i
     asked session core new
+
+-- and the same keys are taken back once entries of a row were laid, of the table of a further change
+abbrev pub CoresEnterSome : (D : Type 0) → Meaning D → Type 0
+CoresEnterSome D m = (core at : Core D) (entered : Pool D FireLinks) (s : Standing) (size : ℕ) (o : Opening) (h : Entries)
+    (e : Entry) (point : Point) (t : ℕ) (whole left keys more : List Change) (start before : Pool D FireLinks)
+    (begun : Pages) (first : ShowsHistory packed_form size o h s begun) (i : Image) (asked : Asked) (session : Sessions)
+    → s.state ≡ said core.list → s.live ≡ core.live → MayBegin o → IsLegal o h → Remembers o h s
+    → GoesBack o h e point s asked t → KeepsWritten core.catalog.pointer.0 core.works s.table
+    → core.catalog.indexes ≡ []
+    → HasTakenKeys m size o h e t whole left keys more s start before begun first i asked session core at
+    → EntersBack m at entered t
+    → HasTakenKeys m size o h e t whole left keys more s start before begun first i asked session core
+    (record at { store = entered })

@@ -13,7 +13,7 @@ use Rattle.mg_engine_steps.specs.Standing.{Remembers, ShowsHistory, Standing}
 use Rattle.mg_engine_changes.specs.Keys.{CoresTakeAll, HasCatalog, HasTakenKeys, IsOfTable}
 use Rattle.mg_engine_changes.specs.Takings.{CoresTakeKeys, HasTakenKey, KnowsCache}
 use Rattle.mg_engine_changes.specs.BackLists.{KeepsLists, KeysKeepLists}
-use Rattle.mg_engine_changes.specs.TakingSteps.{KeysGoOn, StandsMidway, TakesKeysOf, no_keys, one_key}
+use Rattle.mg_engine_changes.specs.TakingSteps.{KeysGoOn, StandsMidway, TakesKeysOf, keys_then, no_keys}
 use Rattle.mg_engine_changes.specs.ToTake.{AreKeysOf, EachChange, KeysAreTaken}
 use Rattle.mg_engine_changes.specs.WrittenLaws.{first_named}
 use Rattle.mg_engine_steps.specs.Again.{without_key}
@@ -93,13 +93,13 @@ module _ {D : Type 0} (m : Meaning D) (one : CoresTakeKeys D m) (taken : KeysAre
 
     has_taken : HasTakenKey m size o h e t whole left s start before mid.store i asked
         session first.versions.speaker c
-    has_taken = one size o h e t whole left s start before mid.store begun first i
-        asked session midway opening legal memory goes.active core.catalog.pointer.0 core.works kept knows c of.other
+    has_taken = one size o h e point t whole left s start before mid.store begun first i
+        asked session midway opening legal memory goes core.catalog.pointer.0 core.works kept knows c of.other
         to_take of.made step.table its_table its_takes
 
     one_step : TakesKeysOf m size o h e t s first.versions.speaker (c ∷ []) left
         (without_key c.table c.key left) before mid.store i has_taken.image
-    one_step = one_key c mid.store has_taken.image has_taken.step no_keys
+    one_step = has_taken.steps
 
     midway_then : StandsMidway m size o h e t whole (without_key c.table c.key left) s
         start mid.store begun first has_taken.image asked session
@@ -168,9 +168,10 @@ module _ {D : Type 0} (m : Meaning D) (one : CoresTakeKeys D m) (taken : KeysAre
       (catalog_then left before i mid c each.0 are.each.0 its_step midway knows catalog) in record {
         rest = rest_of.rest;
         image = rest_of.image;
-        steps = one_key c mid.store
-            (has_taken left before i mid c each.0 are.each.0 its_step midway knows catalog).image
-            (has_taken left before i mid c each.0 are.each.0 its_step midway knows catalog).step rest_of.steps;
+        steps = keys_then m size o h e t s first.versions.speaker (c ∷ []) keys left (without_key c.table c.key left)
+            rest_of.rest before mid.store new.store i
+            (has_taken left before i mid c each.0 are.each.0 its_step midway knows catalog).image rest_of.image
+            (has_taken left before i mid c each.0 are.each.0 its_step midway knows catalog).steps rest_of.steps;
         midway = rest_of.midway;
         knows = rest_of.knows;
         catalog = rest_of.catalog;

@@ -7,7 +7,7 @@ use Rattle.mg_engine_steps.specs.ListShows.{ListsStay}
 use Rattle.mg_engine_steps.specs.Alike.{OthersTakeAlike}
 use Rattle.mg_engine_changes.specs.EngineBacks.{EnginesGoBackTo, OthersWalkOnBack}
 use Rattle.mg_engine_changes.specs.Given.{UndoListsGiveKeys}
-use Rattle.mg_engine_changes.specs.Keys.{CoresTakeAll}
+use Rattle.mg_engine_changes.specs.Keys.{CoresEnterSome, CoresTakeAll}
 use Rattle.mg_engine_changes.specs.BackLists.{KeysKeepLists}
 use Rattle.mg_engine_changes.specs.BackPages.{KeysKeepPages}
 use Rattle.mg_engine_changes.specs.BackStops.{StopsAreGivenUp, WritesFailMidway}
@@ -44,6 +44,7 @@ pub record KnownOfBacks (D P : Type 0) (m : Meaning D) : Type 0 where
   pub first_shows : ShowsFirst packed_form
   pub undo_gives : UndoListsGiveKeys
   pub takes_all : CoresTakeAll D m
+  pub enters : CoresEnterSome D m
   pub keep_lists : KeysKeepLists D FireLinks m
   pub keep_pages : KeysKeepPages D FireLinks m
   pub given_up : StopsAreGivenUp D FireLinks m

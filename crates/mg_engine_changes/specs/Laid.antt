@@ -1,10 +1,12 @@
 -- A version that was laid, as a keeper of records owes it.
-use Rattle.std.specs.Prelude.{◌≡◌, ◌∷◌, ℕ, true, List, Some, None, is_some}
+use Rattle.std.specs.Prelude.{◌≡◌, ◌∷◌, ℕ, true, List, Some, None, is_some, ◌++◌}
 use Rattle.mg_base.specs.Disk.{Meaning}
 use Rattle.mg_base.specs.declared.numbers.RecId.{RecId}
 use Rattle.mg_base.specs.declared.numbers.TxNo.{TxNo}
-use Rattle.mg_image.specs.Form.{Pages, packed_form}
+use Rattle.mg_image.specs.Form.{Pages, Row, packed_form}
 use Rattle.mg_lasting.specs.Crashes.{HoldsAcknowledged, LeavesSince}
+use Rattle.mg_entries.specs.Entries.{LaysAll}
+use Rattle.mg_model.specs.declared.table.Index.{Index}
 use Rattle.mg_model.specs.declared.opening.Opening.{Opening}
 use Rattle.mg_model.specs.declared.table.Table.{Table}
 use Rattle.mg_model.specs.History.{Entries, Entry}
@@ -21,7 +23,7 @@ use Rattle.mg_engine_meaning.specs.PlainTables.{HasPlainTables}
 use Rattle.mg_engine_meaning.specs.Meaning.{Places}
 use Rattle.mg_engine_meaning.specs.Standings.{StandsFor, standing_of}
 use Rattle.mg_base.specs.Image.{Image}
-use Rattle.mg_pool.specs.Pool.{shown}
+use Rattle.mg_pool.specs.Pool.{IsPool, shown}
 use Rattle.mg_pool.specs.declared.pool.Pool.{Pool}
 use Rattle.mg_row_writes.specs.Changing.{TakesNewestOut, TakesPlace}
 use Rattle.mg_row_writes.specs.declared.before.Before.{Before}
@@ -78,6 +80,16 @@ ReadyStays D P m = (places : Places P) (old read : Core D) (t : TxNo) (table : T
     → given_to old.works t.0 table.name ≡ Some table → HasNoted old.works t.0 table → FitsShape table.shape write
     → IsReady m old read t table write before version → StandsFor m old o h
     → StaysOver m old read.store o h t.0
+
+-- and so it does while entries of a row are laid in the first indexes of the table
+abbrev pub EntriesStayOver : (D P : Type 0) → Meaning D → Type 0
+EntriesStayOver D P m = (places : Places P) (old read : Core D) (t : TxNo) (table : Table) (write : Write)
+    (before : Before) (version : Version) (a b : Pool D FireLinks) (indexes later : List Index) (p : RecId) (row : Row)
+    (o : Opening) (h : Entries) → IsCore m old → given_to old.works t.0 table.name ≡ Some table
+    → HasNoted old.works t.0 table → FitsShape table.shape write
+    → IsReady m old read t table write before version → StandsFor m old o h → StaysOver m old a o h t.0 → IsPool m a
+    → a.offline ≡ None → a.geometry ≡ old.store.geometry → table.indexes ≡ indexes ++ later
+    → LaysAll m indexes p row a b → StaysOver m old b o h t.0
 
 -- the first batch of a version of a table that was given, and is kept, leaves the engine with the history: a place was taken
 abbrev pub PlacesStay : (D P : Type 0) → Meaning D → Type 0

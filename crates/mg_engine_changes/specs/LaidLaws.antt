@@ -1,13 +1,11 @@
 -- A version was laid: the engine goes on with its event.
-use Rattle.std.proofs.Common.{◌≡◌, ◌≢◌, ◌==◌, inl, inr, ℕ, Bool, true, false, ◌∷◌, Option, None, Some, refl, sym, ap, ◌∙◌, subst, ◌&&◌}
+use Rattle.std.proofs.Common.{◌≡◌, ◌==◌, inl, ℕ, true, List, ◌∷◌, ◌++◌, Option, None, Some, refl, sym, ap, ◌∙◌, subst, ◌&&◌}
 use Rattle.std.specs.Prelude.{if◌then◌else◌}
 use Rattle.mg_base.specs.Disk.{Meaning}
 use Rattle.mg_base.specs.Image.{Image}
 use Rattle.mg_base.specs.Moments.{joined}
 use Rattle.mg_base.specs.declared.numbers.RecId.{RecId}
 use Rattle.mg_base.specs.declared.numbers.TxNo.{TxNo}
-use Rattle.mg_base.specs.declared.transaction.TxState.{TxState}
-use Rattle.mg_base.specs.declared.transaction.TxState.TheVariants.{Active, Committed, Dead, Limbo}
 use Rattle.mg_model.specs.declared.answer.Answer.TheVariants.{Fine}
 use Rattle.mg_model.specs.declared.opening.Opening.{Opening}
 use Rattle.mg_model.specs.declared.table.Table.{Table}
@@ -16,9 +14,16 @@ use Rattle.mg_model.specs.History.{Entries}
 use Rattle.mg_model.specs.Laws.{OpeningsBegin}
 use Rattle.mg_records.specs.Writing.{FitsShape, event_of}
 use Rattle.mg_records.specs.declared.write.Write.{Write}
-use Rattle.mg_chain.specs.Views.{is_dead}
 use Rattle.mg_engine_steps.specs.AnswersLaws.{NothingAtKeys, ObstaclesAtKeys, RowsAtKeys, SpeakersAreTold}
+use Rattle.mg_engine_steps.specs.Knowing.{HasEntries}
 use Rattle.mg_engine_steps.specs.ListShows.{BehindKeepsTips, ListsStay, TipsStayOn}
+use Rattle.mg_engine_steps.specs.Spoken.{spoken_of}
+use Rattle.mg_engine_steps.specs.StandingLaws.{IsChainOf}
+use Rattle.mg_image.specs.RecordRules.{Facts}
+use Rattle.mg_image.specs.Records.{Reading, cells_of}
+use Rattle.mg_image.specs.Sound.{facts_by}
+use Rattle.mg_image.specs.Tables.{stands_of, table_at}
+use Rattle.mg_value.specs.declared.value.Value.{Value}
 use Rattle.mg_engine_steps.specs.Batches.{ReadsLast, RowsLastStill}
 use Rattle.mg_engine_steps.specs.GoesOn.{WritesGoOn}
 use Rattle.mg_engine_steps.specs.Rows.{DeadsGo, PushesGoOn, ReplacementsGoOn, FirstsGoOn}
@@ -30,22 +35,19 @@ use Rattle.mg_lasting.specs.PoolLaws.{HoldsOne}
 use Rattle.mg_pool.specs.Dirty.{DirtyPages}
 use Rattle.mg_pool.specs.Pool.{IsPool, shown}
 use Rattle.mg_pool.specs.declared.pool.Pool.{Pool}
-use Rattle.mg_row_writes.specs.Befores.{IsBefore, IsBeforeBy, IsBeforeOf}
+use Rattle.mg_row_writes.specs.Befores.{IsBefore}
 use Rattle.mg_row_writes.specs.Finding.{IsInWay}
 use Rattle.mg_row_writes.specs.Changing.{TakesNewestOut, TakesPlace}
 use Rattle.mg_row_writes.specs.Bare.{BareLays, BareNew, BareOverDead, IsBare, bare_in}
 use Rattle.mg_row_writes.specs.BareLaws.{bare_lays, bare_there}
-use Rattle.mg_row_writes.specs.Laying.{laid_in}
-use Rattle.mg_row_writes.specs.Storing.{written_at}
+use Rattle.mg_row_writes.specs.Laying.{EntersRow, Lays, LaysNew, LaysOverDead, laid_in}
+use Rattle.mg_row_writes.specs.Storing.{row_stored, written_at}
 use Rattle.mg_row_writes.specs.declared.before.Before.{Before}
 use Rattle.mg_row_writes.specs.declared.before.Way.{Way}
 use Rattle.mg_row_writes.specs.declared.before.Way.TheVariants as ways
 use Rattle.mg_engine_steps.specs.Writes.{IsSilentAt}
 use Rattle.mg_seek.specs.Readings.{SpeakersOfReadings}
 use Rattle.mg_seek.specs.Speaking.{IsSpeaker}
-use Rattle.mg_seek.specs.declared.views.Obstacle.{Obstacle}
-use Rattle.mg_seek.specs.declared.walk.Placed.{Placed}
-use Rattle.mg_snap.specs.Live.{State}
 use Rattle.mg_version.specs.declared.cell.Version.{Version}
 use Rattle.mg_space.specs.Taking.{IsGeometry}
 use Rattle.mg_space.specs.View.{Tells}
@@ -53,13 +55,13 @@ use Rattle.mg_space.specs.ViewLaws.{CountsNow}
 use Rattle.mg_space.specs.declared.links.FireLinks.{FireLinks}
 use Rattle.mg_txlist.specs.TxList.{said}
 use Rattle.mg_waits.specs.Machine.{NobodyWaits, VerdictsAreTheMachines}
-use Rattle.mg_waits.specs.Waits.{Edges, IsVerdict, edges_in}
+use Rattle.mg_waits.specs.Waits.{edges_in}
 use Rattle.mg_works.specs.Works.{given_to, work_of}
 use Rattle.mg_core.specs.declared.parts.Core.{Core}
 use Rattle.mg_core.specs.Cores.{IsCore}
-use Rattle.mg_core.specs.Obstacles.{IsOfRecord, IsPassed}
+use Rattle.mg_core.specs.Obstacles.{IsOfRecord}
 use Rattle.mg_core.specs.Putting.{LaysKept, StandsBefore, works_kept}
-use Rattle.mg_core.specs.Writing.{HasBegun, IsFree, IsOfKey, KnowsKey, Writes}
+use Rattle.mg_core.specs.Writing.{HasBegun, IsFree, IsOfKey, KnowsKey}
 use Rattle.mg_engine_meaning.specs.Meaning.{Places}
 use Rattle.mg_engine_meaning.specs.Standings.{ShowsIt, StandsFor, asked_in, sessions_in, standing_of, StandsWhile}
 use Rattle.mg_engine_meaning.specs.ReadLaws.{reads_stand}
@@ -68,7 +70,6 @@ use Rattle.mg_engine_steps.specs.Known.{IsShown, seen_is_shown}
 use Rattle.mg_model.specs.Machine.{own}
 use Rattle.mg_model.specs.Openings.{everyone}
 use Rattle.mg_overlays.specs.Overlays.{left_state}
-use Rattle.mg_image_overlays.specs.OneTable.{one_table}
 use Rattle.mg_undo.specs.Machine.{was_in}
 use Rattle.mg_base.specs.declared.geometry.Geometry.{Geometry}
 use Rattle.mg_engine_steps.specs.Walking.{AreToCome, WalkPlace}
@@ -84,12 +85,17 @@ use Rattle.mg_engine_changes.specs.Spots.{HasTaken}
 use Rattle.mg_engine_changes.specs.Befores.{BeforesAreTold}
 use Rattle.mg_engine_changes.specs.Codes.{StoredRowsAreCoded}
 use Rattle.mg_engine_meaning.specs.Formers.{MayReturn}
-use Rattle.mg_engine_changes.specs.Enters.{cleared_told, committed_stands, dead_cleared, pushed_stands, replaced_stands, made_stands, placed_told, spot_taken, tells, there, was_told}
-use Rattle.mg_engine_changes.specs.BareTables.{given_bare}
+use Rattle.mg_engine_changes.specs.EnteredAllLaws.{AllEntered, RowEntered, all_entered, row_entered}
+use Rattle.mg_engine_changes.specs.Starts.{StartsOver}
+use Rattle.mg_entries.specs.Entries.{LaysAll}
+use Rattle.mg_image.specs.Form.{Row}
+use Rattle.mg_model.specs.declared.table.Index.{Index}
+use Rattle.mg_engine_changes.specs.Enters.{cleared_told, committed_stands, dead_cleared, made_stands, placed_there, placed_told, replaced_stands, settled_there, speaks_there, spot_taken, tells, there, there_is, was_told}
+use Rattle.mg_engine_changes.specs.EntryOverLaws.{StandsOver}
+use Rattle.mg_entry_steps.specs.EntryStays.{EntriesStay}
 use Rattle.mg_engine_changes.specs.Kept.{MadeWritesFollow, made_by}
 use Rattle.mg_engine_changes.specs.Clearing.{HasCleared, StaysFor}
 use Rattle.mg_engine_changes.specs.Laid.{GoesOnWith, HasNoted, StaysOver, bare_standing}
-use Rattle.mg_engine_changes.specs.Looked.{placed_lives}
 use Rattle.mg_engine_changes.specs.Notes.{HasRead}
 use Rattle.mg_engine_changes.specs.Owners.{SeenMayBeWritten}
 use Rattle.mg_engine_changes.specs.Plain.{WritesKeepPlain}
@@ -97,61 +103,7 @@ use Rattle.mg_engine_changes.specs.Refusals.{IsReady}
 use Rattle.mg_engine_changes.specs.RefusalLaws.{begun_read, found_read, free_answer, free_read, passed_read}
 use Rattle.mg_engine_changes.specs.StopLaws.{reads_on, told_before}
 use Rattle.mg_engine_changes.specs.Ways.{WaysAreFree}
-
--- ---- who stands in the way, and where a write goes
-
--- the record into which a write goes
-abbrev record_of : Way → Option RecId
-record_of ways.Make = None
-record_of (ways.Push rec) = Some rec
-record_of (ways.PushOverDead rec) = Some rec
-record_of (ways.Replace rec) = Some rec
-
-goes_there : (state : ℕ → TxState) (t : ℕ) (table : Table) (rec : RecId) (found : Option Placed) (b : Before)
-    → IsBeforeOf state t table rec found b → record_of b.way ≡ Some rec
-goes_there state t table rec None b is = ap (λ (x : Before). record_of x.way) is
-goes_there state t table rec (Some p) b is = by (p.version.tx.0 == t) is
-  where
-    other : (dead : Bool) → record_of (if dead then ways.PushOverDead rec else ways.Push rec) ≡ Some rec
-    other true = refl
-    other false = refl
-
-    by : (own : Bool) → IsBeforeBy own state table rec p.version b → record_of b.way ≡ Some rec
-    by true its = ap record_of its.way
-    by false its = ap (λ (x : Before). record_of x.way) its ∙ other (is_dead (state p.version.tx.0))
-
-goes_to : (state : ℕ → TxState) (live : State) (t : ℕ) (pages : Pages) (table : Table) (rec : Option RecId) (b : Before)
-    → IsBefore state live t pages table rec b → record_of b.way ≡ rec
-goes_to state live t pages table None b is = ap (λ (x : Before). record_of x.way) is
-goes_to state live t pages table (Some rec) b is = goes_there state t table rec is.newest b is.is
-
-none_passed : (state : ℕ → TxState) (live : State) (t : ℕ) (pages : Pages) (rec : Option RecId) (waits : Edges)
-    (wait : Bool) (x : Option Obstacle) → IsInWay state live t pages rec x → IsPassed waits t wait x
-    → IsInWay state live t pages rec None
-none_passed state live t pages rec waits wait None is passed = is
-none_passed state live t pages None waits wait (Some x) is passed = absurd cc
-none_passed state live t pages (Some rec) waits wait (Some x) is passed =
-    absurd (never x.state refl wait passed (placed_lives state live t is.newest x is.is))
-  where
-    never : (y : TxState) → x.state ≡ y → (w : Bool) → IsVerdict waits t x.by.0 y w None → x.state ≢ Dead → ⊥
-    never Committed same w verdict lives = absurd cc
-    never Limbo same w verdict lives = absurd cc
-    never Dead same w verdict lives = lives same
-    never Active same false verdict lives = absurd cc
-    never Active same true (inl (none, leads)) lives = absurd cc
-    never Active same true (inr (none, leads)) lives = absurd cc
-
--- a write that is made was ready
-pub ready_of : {D : Type 0} (m : Meaning D) (old new : Core D) (t : TxNo) (table : Table) (write : Write)
-    (written : Writes m old new t table write)
-    → IsReady m old written.puts.read t table write written.puts.before written.puts.version
-ready_of m old new t table write written = record {
-  free = written.free;
-  wait = written.wait;
-  rec = written.rec;
-  is_free = written.is_free;
-  has = written.puts.has;
-}
+use Rattle.mg_engine_changes.specs.WriteWays.{goes_to, none_passed, record_of}
 
 -- ---- the whole call
 
@@ -191,9 +143,6 @@ module _ (speakers : SpeakersAreTold) (obstacles : ObstaclesAtKeys) (rows : Rows
 
   online : old.store.offline ≡ None
   online = begun.continues.0
-
-  bare : IsBare table
-  bare = given_bare m old o h stands online t.0 begun.continues.1 table given
 
   answered : answer o h (event_of t table.name write) ≡ Fine
   answered = free_answer speakers obstacles rows nothing begin verdicts nobody dirs m places counts_now old core t table
@@ -297,7 +246,7 @@ module _ (speakers : SpeakersAreTold) (obstacles : ObstaclesAtKeys) (rows : Rows
       }
 
   -- where pages were only read, all stays
-  pub read_stays : StaysOver m old read.store o h t.0
+  abbrev pub read_stays : StaysOver m old read.store o h t.0
   read_stays = record {
     stands = mid_stands;
     leaves = mid_leaves;
@@ -307,6 +256,9 @@ module _ (speakers : SpeakersAreTold) (obstacles : ObstaclesAtKeys) (rows : Rows
       walk_mid i held u x from rows_ next,
     );
   }
+
+  abbrev read_over : StandsOver m old read.store o h t.0
+  read_over = record { over = read_stays; shows = mid_shows }
 
   -- ---- a first batch, which adds nothing to the history
 
@@ -346,7 +298,7 @@ module _ (speakers : SpeakersAreTold) (obstacles : ObstaclesAtKeys) (rows : Rows
           (sym up) place_shows;
     }
 
-    stays_over : StaysOver m old placed o h t.0
+    abbrev stays_over : StaysOver m old placed o h t.0
     stays_over = record {
       stands = place_stands;
       leaves = leaves_on placed.disk stays.leaves;
@@ -363,6 +315,9 @@ module _ (speakers : SpeakersAreTold) (obstacles : ObstaclesAtKeys) (rows : Rows
             (shown read.store.dirty mid_shows.image) u x from rows_ refl refl (walk_mid i held u x from rows_ next)))),
       );
     }
+
+    abbrev placed_over : StandsOver m old placed o h t.0
+    placed_over = record { over = stays_over; shows = place_shows }
 
   -- a place is taken
   module _ (still : RowsLastStill D FireLinks m packed_form) (way : before.way ≡ ways.Make)
@@ -476,9 +431,60 @@ module _ (speakers : SpeakersAreTold) (obstacles : ObstaclesAtKeys) (rows : Rows
     pub dead_stays : StaysOver m old placed o h t.0
     dead_stays = stays_over placed out_stays out_told takes.changed.online.1 out_geometry
 
-  -- ---- the version is laid
+  -- ---- the starts: pages were read, a place was taken, or a dead transaction's version was taken out
 
-  module _ (new : Core D) (laid : LaysKept m read (record new { directories = read.directories }) t.0 table write
+  module _ (still : RowsLastStill D FireLinks m packed_form) (speak : SpeakersOfReadings)
+      (deads : DeadsGo packed_form D FireLinks m) where
+    pub starts_over : StartsOver m old read o h t.0 table write before
+    starts_over = record {
+      at_read = read_over;
+      at_placed = λ way placed at takes. record {
+        it = placed_over placed (taken_stays still way placed at takes) (taken_told still way placed at takes)
+            takes.changed.online.1 (taken_geometry still way placed at takes);
+        its = (its_there still way placed at takes).its;
+        placed = (taken still way placed at takes).spot_of.placed;
+        same = (its_there still way placed at takes).same.pointer;
+      };
+      at_cleared = λ rec way cleared takes. record {
+        it = placed_over cleared (out_stays speak deads rec way cleared takes) (out_told speak deads rec way cleared takes)
+            takes.changed.online.1 (out_geometry speak deads rec way cleared takes);
+        speaks = (out speak deads rec way cleared takes).settled_of.speaks;
+      };
+    }
+
+  -- ---- the entries are laid, and then the version
+
+  -- in some indexes
+  module _ (stay : EntriesStay packed_form D FireLinks m) (a b : Pool D FireLinks) (over : StaysOver m old a o h t.0)
+      (pool : IsPool m a) (up : a.offline ≡ None) (from_old : a.geometry ≡ old.store.geometry)
+      (indexes later : List Index) (parts : table.indexes ≡ indexes ++ later) (p : RecId) (row : Row)
+      (laid : LaysAll m indexes p row a b) where
+    pub entries_over : StaysOver m old b o h t.0
+    entries_over = (all_entered speakers befores follow may_write coded lists one dirs.one_way m places unask holds stay
+        old core t begun.continues.1 begun.may.work work_is table given noted write fits read.waits since.over
+        before version ready.has.stored o h answered a
+        (record { over = over; shows = shows_of m (record old { store = a }) o h over.stands up }) pool up from_old
+        indexes later parts p row b laid).now.over
+
+  module _ (stay : EntriesStay packed_form D FireLinks m) (a : Pool D FireLinks) (it : StandsOver m old a o h t.0)
+      (pool : IsPool m a) (up : a.offline ≡ None) (from_old : a.geometry ≡ old.store.geometry) where
+    pub all_laid : (indexes later : List Index) → table.indexes ≡ indexes ++ later → (p : RecId) (row : Row)
+        (b : Pool D FireLinks) → LaysAll m indexes p row a b → AllEntered m old a b o h t.0 it indexes p row
+    all_laid indexes later parts p row b laid = all_entered speakers befores follow may_write coded lists one dirs.one_way
+        m places unask holds stay old core t begun.continues.1 begun.may.work work_is table given noted write fits
+        read.waits since.over before version ready.has.stored o h answered a it pool up from_old indexes later parts p row b
+        laid
+
+  module _ (stay : EntriesStay packed_form D FireLinks m) (a : Pool D FireLinks) (it : StandsOver m old a o h t.0)
+      (pool : IsPool m a) (up : a.offline ≡ None) (from_old : a.geometry ≡ old.store.geometry) (rec : RecId)
+      (b : Pool D FireLinks) (enters : EntersRow m a b table rec write) where
+    pub row_laid : RowEntered m old a b o h t.0 it table rec version (row_stored table write)
+    row_laid = row_entered speakers befores follow may_write coded lists one dirs.one_way m places unask holds stay old
+        core t begun.continues.1 begun.may.work work_is table given noted write fits read.waits since.over before
+        version ready.has.stored o h answered a it pool up from_old rec b enters
+
+  module _ (stay : EntriesStay packed_form D FireLinks m) (new : Core D)
+      (laid : LaysKept m read (record new { directories = read.directories }) t.0 table write
       (written_at table write) before version) (notes : NotesOrDrops (by_table read.directories.dirs)
       (by_table new.directories.dirs) table.pointer.0 (key_bytes (written_at table write))
       (laid_in m read.store new.store table before.way write version laid.lays))
@@ -496,152 +502,181 @@ module _ (speakers : SpeakersAreTold) (obstacles : ObstaclesAtKeys) (rows : Rows
             directories = new.directories;
           }) since.same
 
-      -- where it was laid, its record was noted; it has no entries
+      -- where it was laid, its record was noted
       abbrev LaidAt : Way → Type 0
-      LaidAt w = (lays : BareLays m read.store new.store table.pointer.0 w version)
+      LaidAt w = (lays : Lays m read.store new.store table w write version)
           × NotesOrDrops (by_table old.directories.dirs) (by_table new.directories.dirs) table.pointer.0
-          (key_bytes (written_at table write)) (bare_in m read.store new.store table.pointer.0 w version lays)
+          (key_bytes (written_at table write)) (laid_in m read.store new.store table w write version lays)
 
       laid_at : (w : Way) → before.way ≡ w → LaidAt w
       laid_at w is = subst LaidAt is (
-        bare_lays m table bare read.store new.store before.way write version laid.lays,
-        subst (λ (r : RecId). NotesOrDrops (by_table old.directories.dirs) (by_table new.directories.dirs)
-            table.pointer.0 (key_bytes (written_at table write)) r)
-            (bare_there m table bare read.store new.store before.way write version laid.lays)
-            (subst (λ (k : Kept). NotesOrDrops (by_table k.dirs) (by_table new.directories.dirs) table.pointer.0
+        laid.lays,
+        subst (λ (k : Kept). NotesOrDrops (by_table k.dirs) (by_table new.directories.dirs) table.pointer.0
             (key_bytes (written_at table write))
             (laid_in m read.store new.store table before.way write version laid.lays))
-            (ap (λ (c : Core D). c.directories) since.same) notes),
+            (ap (λ (c : Core D). c.directories) since.same) notes,
       )
 
-      abbrev s_new : Standing
-      s_new = bare_standing (record old {
+      abbrev now : Core D
+      now = record old {
         store = new.store;
         waits = read.waits;
         works = works_kept t.0 table.pointer.0 (written_at table write) before.was old.works;
         directories = new.directories;
-      })
-
-      abbrev Stood_now : Type 0
-      Stood_now = StandsFor m (record old {
-        store = new.store;
-        waits = read.waits;
-        works = works_kept t.0 table.pointer.0 (written_at table write) before.was old.works;
-        directories = new.directories;
-      }) o (made_by t table write ∷ h) × LeavesSince m read.store.disk new.store.disk
-          (HoldsAcknowledged packed_form read.store.dirty.size o h)
-          × WalkInto m read.store.geometry.size (bare_standing old)
-          (shown read.store.dirty mid_shows.image) new.store s_new t.0
-
-      whole : Stood_now → GoesOnWith m old new o h (made_by t table write) t.0
-      whole stood_now = record {
-        lawful = inl (sym answered);
-        stands = subst (λ (c : Core D). StandsFor m c o (made_by t table write ∷ h)) (sym new_is) stood_now.0;
-        leaves = leaves_on new.store.disk stood_now.1;
-        walks = λ i held u ne also x from rows_ next. subst (λ (c : Core D). (k : Image) × (m.held c.store.disk ≡ Some k)
-            × AreToCome c.store.geometry.size (bare_standing c) (shown c.store.dirty k) u x from rows_) (sym new_is)
-            (stood_now.2 u ne also x from rows_ (walk_mid i held u x from rows_ next));
       }
 
-      -- numbers and tables make no difference to walks
-      whole_of : StandsFor m (record old {
-        store = new.store;
-        waits = read.waits;
-        works = works_kept t.0 table.pointer.0 (written_at table write) before.was old.works;
-        directories = new.directories;
-      }) o (made_by t table write ∷ h) × LeavesSince m read.store.disk new.store.disk
-          (HoldsAcknowledged packed_form read.store.dirty.size o h)
-          × WalkInto m read.store.geometry.size
-          (standing_of (record old { store = read.store }) mid_stands.numbers mid_stands.tables)
-          (shown read.store.dirty mid_shows.image) new.store (standing_of (record old {
-            waits = read.waits;
-            works = works_kept t.0 table.pointer.0 (written_at table write) before.was old.works;
-          }) (λ u n. if (u == t.0) && same_name n table.name then table.pointer.0 else mid_stands.numbers u n)
-          mid_stands.tables) t.0 → GoesOnWith m old new o h (made_by t table write) t.0
-      whole_of it = whole (
-        it.0,
-        it.1,
-        λ u ne also x from rows_ next.
-            let (k, held, then_) = it.2 u ne also x from rows_ (as_standing read.store.geometry.size
-            (bare_standing old) (standing_of (record old { store = read.store }) mid_stands.numbers
-            mid_stands.tables) (shown read.store.dirty mid_shows.image) u x from rows_ refl refl next) in (
-              k,
-              held,
-              as_standing new.store.geometry.size (standing_of (record old {
-                waits = read.waits;
-                works = works_kept t.0 table.pointer.0 (written_at table write) before.was old.works;
-              }) (λ v n. if (v == t.0) && same_name n table.name then table.pointer.0 else mid_stands.numbers v n)
-                  mid_stands.tables) s_new (shown new.store.dirty k) u x from rows_ refl refl then_,
-            ),
-      )
+      -- over a cache that stands for the history
+      module _ (b : Pool D FireLinks) (it : StandsOver m old b o h t.0) (pool : IsPool m b)
+          (from_old : b.geometry ≡ old.store.geometry) where
+        abbrev s_b : Standing
+        s_b = standing_of (record old {
+          waits = read.waits;
+          works = works_kept t.0 table.pointer.0 (written_at table write) before.was old.works;
+        }) (λ u n. if (u == t.0) && same_name n table.name then table.pointer.0 else it.over.stands.numbers u n)
+            it.over.stands.tables
 
-      pub pushed : (r : RecId) → before.way ≡ ways.Push r → GoesOnWith m old new o h (made_by t table write) t.0
-      pushed r way = let its = facts_at r (ap record_of way) in whole_of (pushed_stands speakers befores follow may_write coded lists m places unask
-          (record old { store = read.store }) since.keeps.pool o h mid_stands mid_shows t begun.continues.1
-          begun.may.work work_is table given write fits read.waits since.over before
-          version ready.has.stored answered noted holds mid_geometry new.store one
-          dirs.one_way begin on behind keep_plain ways_free go push_on replace_on r its.0 its.2 new.directories
-          (laid_at (ways.Push r) way).1 (laid_at (ways.Push r) way).0 way its.1)
-
-      pub replaced : (r : RecId) → before.way ≡ ways.Replace r
-          → GoesOnWith m old new o h (made_by t table write) t.0
-      replaced r way = let its = facts_at r (ap record_of way) in whole_of (replaced_stands speakers befores follow may_write coded lists m places unask
-          (record old { store = read.store }) since.keeps.pool o h mid_stands mid_shows t begun.continues.1
-          begun.may.work work_is table given write fits read.waits since.over before
-          version ready.has.stored answered noted holds mid_geometry new.store one
-          dirs.one_way begin on behind keep_plain ways_free go push_on replace_on r its.0 its.2 new.directories
-          (laid_at (ways.Replace r) way).1 (laid_at (ways.Replace r) way).0)
-
-      -- over a cache that stands for the same history
-      abbrev s_made : Standing
-      s_made = standing_of (record old {
-        waits = read.waits;
-        works = works_kept t.0 table.pointer.0 (written_at table write) before.was old.works;
-      }) (λ u n. if (u == t.0) && same_name n table.name then table.pointer.0 else mid_stands.numbers u n)
-          mid_stands.tables
-
-      module _ (placed : Pool D FireLinks) (stays : Stayed placed) (pool : IsPool m placed)
-          (geometry : placed.geometry ≡ read.store.geometry) where
-        over_size : placed.dirty.size ≡ read.store.dirty.size
-        over_size = pool.page_size ∙ (ap (λ (g : Geometry). g.size) geometry ∙ sym since.keeps.pool.page_size)
-
-        over_it : StandsFor m (record old {
+        goes_over : StandsFor m (record old {
           store = new.store;
           waits = read.waits;
           works = works_kept t.0 table.pointer.0 (written_at table write) before.was old.works;
           directories = new.directories;
-        }) o (made_by t table write ∷ h) × LeavesSince m placed.disk new.store.disk
-            (HoldsAcknowledged packed_form placed.dirty.size o h)
-            × WalkInto m placed.geometry.size
-            (standing_of (record old { store = placed }) mid_stands.numbers mid_stands.tables)
-            (shown placed.dirty stays.image) new.store s_made t.0
+        }) o (made_by t table write ∷ h) × LeavesSince m b.disk new.store.disk
+            (HoldsAcknowledged packed_form b.dirty.size o h)
+            × WalkInto m b.geometry.size
+            (standing_of (record old { store = b }) it.over.stands.numbers it.over.stands.tables)
+            (shown b.dirty it.shows.image) new.store s_b t.0
             → GoesOnWith m old new o h (made_by t table write) t.0
-        over_it stood = whole_of (
-          stood.0,
-          record {
-            since = joined m read.store.disk placed.disk new.store.disk
-                (HoldsAcknowledged packed_form read.store.dirty.size o h) stays.leaves.since on_it.since;
+        goes_over stood = record {
+          lawful = inl (sym answered);
+          stands = subst (λ (c : Core D). StandsFor m c o (made_by t table write ∷ h)) (sym new_is) stood.0;
+          leaves = record {
+            since = joined m old.store.disk b.disk new.store.disk
+                (HoldsAcknowledged packed_form old.store.dirty.size o h) it.over.leaves.since on_it.since;
             left = on_it.left;
-          },
-          λ u ne also x from rows_ next. stood.2 u ne also x from rows_ (as_standing placed.geometry.size
-              (standing_of (record old { store = read.store }) mid_stands.numbers mid_stands.tables)
-              (standing_of (record old { store = placed }) mid_stands.numbers mid_stands.tables)
-              (shown placed.dirty stays.image) u x from rows_ refl refl
-              (subst (λ (g : Geometry). AreToCome g.size (standing_of (record old { store = read.store })
-              mid_stands.numbers mid_stands.tables) (shown placed.dirty stays.image) u x from rows_)
-              (sym geometry) (stays.others u ne also x from rows_ next))),
-        )
+          };
+          walks = λ i held u ne also x from rows_ next.
+              let (k, held_k, next_k) = it.over.walks i held u ne also x from rows_ next in
+              subst (λ (c : Core D). (j : Image) × (m.held c.store.disk ≡ Some j)
+              × AreToCome c.store.geometry.size (bare_standing c) (shown c.store.dirty j) u x from rows_) (sym new_is)
+              (into u x from rows_ (stood.2 u ne also x from rows_ (as_standing b.geometry.size (bare_standing old)
+              (standing_of (record old { store = b }) it.over.stands.numbers it.over.stands.tables)
+              (shown b.dirty it.shows.image) u x from rows_ refl refl
+              (subst (λ (j : Image). AreToCome b.geometry.size (bare_standing old) (shown b.dirty j) u x from rows_)
+              (one_image k held_k) next_k))));
+        }
           where
-            on_it : LeavesSince m placed.disk new.store.disk
-                (HoldsAcknowledged packed_form read.store.dirty.size o h)
-            on_it = subst (λ (n : ℕ). LeavesSince m placed.disk new.store.disk
-                (HoldsAcknowledged packed_form n o h)) over_size stood.1
+            same_size : b.dirty.size ≡ old.store.dirty.size
+            same_size = pool.page_size ∙ (ap (λ (g : Geometry). g.size) from_old ∙ sym core.pool.page_size)
+
+            on_it : LeavesSince m b.disk new.store.disk (HoldsAcknowledged packed_form old.store.dirty.size o h)
+            on_it = subst (λ (n : ℕ). LeavesSince m b.disk new.store.disk (HoldsAcknowledged packed_form n o h))
+                same_size stood.1
+
+            one_image : (k : Image) → m.held b.disk ≡ Some k → k ≡ it.shows.image
+            one_image k held = let both : Some k ≡ Some it.shows.image = sym held ∙ it.shows.held in cc
+
+            into : (u : ℕ) (x : Table) (from : Option WalkPlace) (rows_ : KeyedRows)
+                → (k : Image) × (m.held new.store.disk ≡ Some k)
+                × AreToCome new.store.geometry.size s_b (shown new.store.dirty k) u x from rows_
+                → (k : Image) × (m.held new.store.disk ≡ Some k)
+                × AreToCome new.store.geometry.size (bare_standing now) (shown new.store.dirty k) u x from rows_
+            into u x from rows_ (k, held, next) = (
+              k,
+              held,
+              as_standing new.store.geometry.size s_b (bare_standing now) (shown new.store.dirty k) u x from rows_ refl
+                  refl next,
+            )
+
+      -- ---- in a record that is there
+
+      module _ (rec : RecId) (its : Facts_at (Some rec)) where
+        was : (before.was ≡ was_in (own o h t.0) table.name (written_at table write))
+            × MayReturn table.shape (written_at table write) before.was
+        was = was_told speakers befores follow may_write coded lists m places unask
+            (record old { store = read.store }) since.keeps.pool o h mid_stands mid_shows t
+            begun.continues.1 begun.may.work work_is table given write fits read.waits since.over before version
+            ready.has.stored answered (Some rec) its.0 its.2
+
+        speaks : mid_shows.stands.shows.versions.speaker table.name (written_at table write) ≡ Some rec
+        speaks = speaks_there speakers befores follow may_write coded lists m places unask
+            (record old { store = read.store }) since.keeps.pool o h mid_stands mid_shows t
+            begun.continues.1 begun.may.work work_is table given write fits read.waits since.over before version
+            ready.has.stored answered rec its.0
+
+        abbrev mid_there : IsShown mid_shows.stands.shows.layout table
+        mid_there = there speakers befores follow may_write coded lists m places unask
+            (record old { store = read.store }) since.keeps.pool o h mid_stands mid_shows t
+            begun.continues.1 begun.may.work work_is table given write fits read.waits since.over before version
+            ready.has.stored answered
+
+        placed : table_at (stands_of mid_shows.stands.shows.layout) rec.page.0 ≡ Some mid_there.its
+        placed = placed_there speakers befores follow may_write coded lists m places unask
+            (record old { store = read.store }) since.keeps.pool o h mid_stands mid_shows t
+            begun.continues.1 begun.may.work work_is table given write fits read.waits since.over before version
+            ready.has.stored answered rec its.0
+
+        -- after the entries
+        module _ (b : Pool D FireLinks) (enters : EntersRow m read.store b table rec write) where
+          e : RowEntered m old read.store b o h t.0 read_over table rec version (row_stored table write)
+          e = row_laid stay read.store read_over since.keeps.pool mid_online since.keeps.geometry rec b enters
+
+          geometry_b : IsGeometry b.geometry
+          geometry_b = subst IsGeometry (sym (e.geometry ∙ since.keeps.geometry)) core.geometry
+
+          speaks_b : e.now.shows.stands.shows.versions.speaker table.name (written_at table write) ≡ Some rec
+          speaks_b = ap (λ (f : List ℕ → Value → Option RecId). f table.name (written_at table write)) e.speaks ∙ speaks
+
+          found_b : HasEntries (shown b.dirty e.now.shows.image) (there speakers befores follow may_write coded lists m places unask
+              (record old { store = b }) e.pool o h e.now.over.stands e.now.shows t
+              begun.continues.1 begun.may.work work_is table given write fits read.waits since.over before version
+              ready.has.stored answered).its
+              rec version (row_stored table write)
+          found_b = subst (λ (x : Table). HasEntries (shown b.dirty e.now.shows.image) x rec version
+              (row_stored table write)) (sym (there_is speakers befores follow may_write coded lists m places unask
+              (record old { store = b }) e.pool o h e.now.over.stands e.now.shows t
+              begun.continues.1 begun.may.work work_is table given write fits read.waits since.over before version
+              ready.has.stored answered)) e.found
+
+      pub pushed : (r : RecId) → before.way ≡ ways.Push r → GoesOnWith m old new o h (made_by t table write) t.0
+      pushed r way =
+          let its : Facts_at (Some r) = facts_at r (ap record_of way) in
+          let (lays, notes_) = laid_at (ways.Push r) way in
+          let it : RowEntered m old read.store lays.entered o h t.0 read_over table r version (row_stored table write) =
+          e r its lays.entered lays.enters in
+          goes_over lays.entered it.now it.pool (it.geometry ∙ since.keeps.geometry)
+          (committed_stands speakers befores follow may_write coded lists m places unask
+          (record old { store = lays.entered }) it.pool o h it.now.over.stands it.now.shows t
+          begun.continues.1 begun.may.work work_is table given write fits read.waits since.over before version
+          ready.has.stored answered noted holds
+          (geometry_b r its lays.entered lays.enters) new.store one dirs.one_way begin on behind keep_plain go push_on r
+          (was r its) (speaks_b r its lays.entered lays.enters)
+          (λ newest slot. settled_there speakers befores follow may_write coded lists m places unask
+          (record old { store = read.store }) since.keeps.pool o h mid_stands mid_shows t
+          begun.continues.1 begun.may.work work_is table given write fits read.waits since.over before version
+          ready.has.stored answered r its.0 ways_free its.2 way its.1 newest
+          (sym (it.cells r (mid_there r its).its (placed r its)) ∙ slot)) (found_b r its lays.entered lays.enters)
+          new.directories notes_ lays.lays)
+
+      pub replaced : (r : RecId) → before.way ≡ ways.Replace r → GoesOnWith m old new o h (made_by t table write) t.0
+      replaced r way =
+          let its : Facts_at (Some r) = facts_at r (ap record_of way) in
+          let (lays, notes_) = laid_at (ways.Replace r) way in
+          let it : RowEntered m old read.store lays.entered o h t.0 read_over table r version (row_stored table write) =
+          e r its lays.entered lays.enters in
+          goes_over lays.entered it.now it.pool (it.geometry ∙ since.keeps.geometry)
+          (replaced_stands speakers befores follow may_write coded lists m places unask
+          (record old { store = lays.entered }) it.pool o h it.now.over.stands it.now.shows t
+          begun.continues.1 begun.may.work work_is table given write fits read.waits since.over before version
+          ready.has.stored answered noted holds
+          (geometry_b r its lays.entered lays.enters) new.store one dirs.one_way begin on behind keep_plain go replace_on r
+          (was r its) (speaks_b r its lays.entered lays.enters) (found_b r its lays.entered lays.enters)
+          new.directories notes_ lays.lays)
 
       -- ---- a record is made
 
       module _ (still : RowsLastStill D FireLinks m packed_form) (first_on : FirstsGoOn packed_form D FireLinks m)
           (way : before.way ≡ ways.Make) where
-        abbrev laid_new : BareNew m read.store new.store table.pointer.0 version
+        abbrev laid_new : LaysNew m read.store new.store table write version
         laid_new = (laid_at ways.Make way).0
 
         abbrev at_place : HasTaken m o h (standing_of (record old { store = read.store }) mid_stands.numbers
@@ -650,52 +685,78 @@ module _ (speakers : SpeakersAreTold) (obstacles : ObstaclesAtKeys) (rows : Rows
             laid_new.at table.name (written_at table write) t.0
         at_place = taken still way laid_new.placed laid_new.at laid_new.takes
 
-        abbrev then_stays : Stayed laid_new.placed
-        then_stays = taken_stays still way laid_new.placed laid_new.at laid_new.takes
-
-        then_geometry : laid_new.placed.geometry ≡ read.store.geometry
-        then_geometry = taken_geometry still way laid_new.placed laid_new.at laid_new.takes
-
-        abbrev then_stands : StandsFor m (record old { store = laid_new.placed }) o h
-        then_stands = place_stands laid_new.placed then_stays
+        abbrev place_over : StandsOver m old laid_new.placed o h t.0
+        place_over = placed_over laid_new.placed (taken_stays still way laid_new.placed laid_new.at laid_new.takes)
             (taken_told still way laid_new.placed laid_new.at laid_new.takes) laid_new.takes.changed.online.1
-            then_geometry
+            (taken_geometry still way laid_new.placed laid_new.at laid_new.takes)
 
-        abbrev then_shows : ShowsIt m (record old { store = laid_new.placed }) o h
-            (standing_of (record old { store = laid_new.placed }) mid_stands.numbers mid_stands.tables)
-        then_shows = place_shows laid_new.placed then_stays
-            (taken_told still way laid_new.placed laid_new.at laid_new.takes) laid_new.takes.changed.online.1
-            then_geometry
+        from_placed : laid_new.placed.geometry ≡ old.store.geometry
+        from_placed = taken_geometry still way laid_new.placed laid_new.at laid_new.takes ∙ since.keeps.geometry
 
-        abbrev place_there : IsShown at_place.spot_of.stands.shows.layout table
-        place_there = there speakers befores follow may_write coded lists m places unask
-            (record old { store = laid_new.placed }) laid_new.takes.changed.pool o h then_stands then_shows t
-            begun.continues.1 begun.may.work work_is table given write fits read.waits since.over
-            before version ready.has.stored answered
+        e_new : RowEntered m old laid_new.placed laid_new.makes.entered o h t.0 place_over table laid_new.at version
+            (row_stored table write)
+        e_new = row_laid stay laid_new.placed place_over laid_new.takes.changed.pool laid_new.takes.changed.online.1
+            from_placed laid_new.at laid_new.makes.entered laid_new.makes.enters
 
-        same_its : (its_there still way laid_new.placed laid_new.at laid_new.takes).its ≡ place_there.its
-        same_its = one_table packed_form laid_new.placed.geometry.size (left_state everyone (said old.list))
-            (shown laid_new.placed.dirty at_place.image) at_place.spot_of.stands.shows.layout
-            at_place.spot_of.stands.shows.reading at_place.spot_of.stands.shows.sound
-            (its_there still way laid_new.placed laid_new.at laid_new.takes).its place_there.its at_place.spot_of.its
-            place_there.stands ((its_there still way laid_new.placed laid_new.at laid_new.takes).same.name
-            ∙ sym place_there.same.name)
+        abbrev new_there : IsShown e_new.now.shows.stands.shows.layout table
+        new_there = there speakers befores follow may_write coded lists m places unask
+            (record old { store = laid_new.makes.entered }) e_new.pool o h e_new.now.over.stands e_new.now.shows t
+            begun.continues.1 begun.may.work work_is table given write fits read.waits since.over before version
+            ready.has.stored answered
+
+        -- the place is the table's still, and holds nothing; and no version of the key counts
+        of_new : table_at (stands_of e_new.now.shows.stands.shows.layout) laid_new.at.page.0 ≡ Some new_there.its
+        of_new = e_new.owners laid_new.at.page.0 ∙ (at_place.spot_of.placed
+            ∙ ap Some (there_is speakers befores follow may_write coded lists m places unask
+            (record old { store = read.store }) since.keeps.pool o h mid_stands mid_shows t
+            begun.continues.1 begun.may.work work_is table given write fits read.waits since.over before version
+            ready.has.stored answered ∙ sym (there_is speakers befores follow may_write coded lists m places unask
+            (record old { store = laid_new.makes.entered }) e_new.pool o h e_new.now.over.stands e_new.now.shows t
+            begun.continues.1 begun.may.work work_is table given write fits read.waits since.over before version
+            ready.has.stored answered)))
+
+        blank_new : cells_of (shown laid_new.makes.entered.dirty e_new.now.shows.image) laid_new.at ≡ None
+        blank_new = e_new.cells laid_new.at (its_there still way laid_new.placed laid_new.at laid_new.takes).its
+            at_place.spot_of.placed ∙ at_place.spot_of.blank
+
+        silent_new : IsSilentAt packed_form laid_new.makes.entered.geometry.size o h (standing_of
+            (record old { store = laid_new.makes.entered }) e_new.now.over.stands.numbers e_new.now.over.stands.tables)
+            (shown laid_new.makes.entered.dirty e_new.now.shows.image) e_new.now.shows.stands.shows table.name
+            (written_at table write)
+        silent_new chain of = at_place.spot_of.silent chain (subst
+            (λ (f : Facts). IsChainOf f at_place.spot_of.stands.shows.reading table.name (written_at table write)
+            (at_place.spot_of.stands.shows.versions.speaker table.name (written_at table write)) chain) e_new.facts
+            (subst (λ (r : Reading). IsChainOf (facts_by (left_state everyone (said old.list))
+            (shown laid_new.makes.entered.dirty e_new.now.shows.image) e_new.now.shows.stands.shows.layout) r table.name
+            (written_at table write) (at_place.spot_of.stands.shows.versions.speaker table.name (written_at table write))
+            chain) e_new.reads (subst (λ (f : List ℕ → Value → Option RecId). IsChainOf (facts_by
+            (left_state everyone (said old.list)) (shown laid_new.makes.entered.dirty e_new.now.shows.image)
+            e_new.now.shows.stands.shows.layout) e_new.now.shows.stands.shows.reading table.name (written_at table write)
+            (f table.name (written_at table write)) chain) e_new.speaks of)))
+
+        found_new : HasEntries (shown laid_new.makes.entered.dirty e_new.now.shows.image) new_there.its laid_new.at version
+            (row_stored table write)
+        found_new = subst (λ (x : Table). HasEntries (shown laid_new.makes.entered.dirty e_new.now.shows.image) x
+            laid_new.at version (row_stored table write)) (sym (there_is speakers befores follow may_write coded lists m places unask
+            (record old { store = laid_new.makes.entered }) e_new.pool o h e_new.now.over.stands e_new.now.shows t
+            begun.continues.1 begun.may.work work_is table given write fits read.waits since.over before version
+            ready.has.stored answered)) e_new.found
 
         pub made_new : GoesOnWith m old new o h (made_by t table write) t.0
-        made_new = over_it laid_new.placed then_stays laid_new.takes.changed.pool then_geometry
+        made_new = goes_over laid_new.makes.entered e_new.now e_new.pool (e_new.geometry ∙ from_placed)
             (made_stands speakers befores follow may_write coded lists m places unask
-            (record old { store = laid_new.placed }) laid_new.takes.changed.pool o h then_stands then_shows t
+            (record old { store = laid_new.makes.entered }) e_new.pool o h e_new.now.over.stands e_new.now.shows t
             begun.continues.1 begun.may.work work_is table given write fits read.waits since.over before version
-            ready.has.stored answered noted holds (subst IsGeometry (sym then_geometry) mid_geometry) new.store one dirs.one_way begin on
+            ready.has.stored answered noted holds
+            (subst IsGeometry (sym (e_new.geometry ∙ from_placed)) core.geometry) new.store one dirs.one_way begin on
             behind keep_plain go first_on (made_was still way laid_new.placed laid_new.at laid_new.takes) laid_new.at
-            at_place.spot_of.silent (at_place.spot_of.placed ∙ ap Some same_its) at_place.spot_of.blank new.directories (laid_at ways.Make way).1
-            laid_new.makes)
+            silent_new of_new blank_new found_new new.directories (laid_at ways.Make way).1 laid_new.makes.lays)
 
       -- ---- over a dead transaction's version
 
       module _ (speak : SpeakersOfReadings) (deads : DeadsGo packed_form D FireLinks m) (rec : RecId)
           (way : before.way ≡ ways.PushOverDead rec) where
-        abbrev laid_over : BareOverDead m read.store new.store rec version
+        abbrev laid_over : LaysOverDead m read.store new.store table rec write version
         laid_over = (laid_at (ways.PushOverDead rec) way).0
 
         abbrev over_out : HasCleared m o h (standing_of (record old { store = read.store }) mid_stands.numbers
@@ -703,29 +764,52 @@ module _ (speakers : SpeakersAreTold) (obstacles : ObstaclesAtKeys) (rows : Rows
             (asked_in old.works) (sessions_in old.works) rec table.name (written_at table write) t.0
         over_out = out speak deads rec way laid_over.cleared laid_over.takes
 
-        abbrev over_stays : Stayed laid_over.cleared
-        over_stays = out_stays speak deads rec way laid_over.cleared laid_over.takes
-
-        over_geometry : laid_over.cleared.geometry ≡ read.store.geometry
-        over_geometry = out_geometry speak deads rec way laid_over.cleared laid_over.takes
-
-        abbrev over_stands : StandsFor m (record old { store = laid_over.cleared }) o h
-        over_stands = place_stands laid_over.cleared over_stays
+        abbrev clear_over : StandsOver m old laid_over.cleared o h t.0
+        clear_over = placed_over laid_over.cleared (out_stays speak deads rec way laid_over.cleared laid_over.takes)
             (out_told speak deads rec way laid_over.cleared laid_over.takes) laid_over.takes.changed.online.1
-            over_geometry
+            (out_geometry speak deads rec way laid_over.cleared laid_over.takes)
 
-        abbrev over_shows : ShowsIt m (record old { store = laid_over.cleared }) o h
-            (standing_of (record old { store = laid_over.cleared }) mid_stands.numbers mid_stands.tables)
-        over_shows = place_shows laid_over.cleared over_stays
-            (out_told speak deads rec way laid_over.cleared laid_over.takes) laid_over.takes.changed.online.1
-            over_geometry
+        from_cleared : laid_over.cleared.geometry ≡ old.store.geometry
+        from_cleared = out_geometry speak deads rec way laid_over.cleared laid_over.takes ∙ since.keeps.geometry
+
+        e_over : RowEntered m old laid_over.cleared laid_over.pushes.entered o h t.0 clear_over table rec version
+            (row_stored table write)
+        e_over = row_laid stay laid_over.cleared clear_over laid_over.takes.changed.pool
+            laid_over.takes.changed.online.1 from_cleared rec laid_over.pushes.entered laid_over.pushes.enters
+
+        abbrev clear_there : IsShown clear_over.shows.stands.shows.layout table
+        clear_there = there speakers befores follow may_write coded lists m places unask
+            (record old { store = laid_over.cleared }) laid_over.takes.changed.pool o h clear_over.over.stands clear_over.shows t
+            begun.continues.1 begun.may.work work_is table given write fits read.waits since.over before version
+            ready.has.stored answered
+
+        of_cleared : table_at (stands_of clear_over.shows.stands.shows.layout) rec.page.0 ≡ Some clear_there.its
+        of_cleared = spoken_of packed_form laid_over.cleared.geometry.size o h (standing_of
+            (record old { store = laid_over.cleared }) clear_over.over.stands.numbers clear_over.over.stands.tables)
+            (shown laid_over.cleared.dirty clear_over.shows.image) clear_over.shows.stands.shows table.name
+            (written_at table write) rec clear_there.its clear_there.stands clear_there.same.name
+            over_out.settled_of.speaks
+
+        found_over : HasEntries (shown laid_over.pushes.entered.dirty e_over.now.shows.image) (there speakers befores follow may_write coded lists m places unask
+            (record old { store = laid_over.pushes.entered }) e_over.pool o h e_over.now.over.stands e_over.now.shows t
+            begun.continues.1 begun.may.work work_is table given write fits read.waits since.over before version
+            ready.has.stored answered).its rec version
+            (row_stored table write)
+        found_over = subst (λ (x : Table). HasEntries (shown laid_over.pushes.entered.dirty e_over.now.shows.image) x
+            rec version (row_stored table write)) (sym (there_is speakers befores follow may_write coded lists m places unask
+            (record old { store = laid_over.pushes.entered }) e_over.pool o h e_over.now.over.stands e_over.now.shows t
+            begun.continues.1 begun.may.work work_is table given write fits read.waits since.over before version
+            ready.has.stored answered)) e_over.found
 
         pub over_dead : GoesOnWith m old new o h (made_by t table write) t.0
-        over_dead = over_it laid_over.cleared over_stays laid_over.takes.changed.pool over_geometry
+        over_dead = goes_over laid_over.pushes.entered e_over.now e_over.pool (e_over.geometry ∙ from_cleared)
             (committed_stands speakers befores follow may_write coded lists m places unask
-            (record old { store = laid_over.cleared }) laid_over.takes.changed.pool o h over_stands over_shows t
+            (record old { store = laid_over.pushes.entered }) e_over.pool o h e_over.now.over.stands e_over.now.shows t
             begun.continues.1 begun.may.work work_is table given write fits read.waits since.over before version
-            ready.has.stored answered noted holds (subst IsGeometry (sym over_geometry) mid_geometry) new.store one dirs.one_way begin on
+            ready.has.stored answered noted holds
+            (subst IsGeometry (sym (e_over.geometry ∙ from_cleared)) core.geometry) new.store one dirs.one_way begin on
             behind keep_plain go push_on rec (over_was speak deads rec way laid_over.cleared laid_over.takes)
-            over_out.settled_of.speaks over_out.settled_of.settled new.directories
-            (laid_at (ways.PushOverDead rec) way).1 laid_over.pushes)
+            (ap (λ (f : List ℕ → Value → Option RecId). f table.name (written_at table write)) e_over.speaks
+            ∙ over_out.settled_of.speaks)
+            (λ newest slot. over_out.settled_of.settled newest (sym (e_over.cells rec clear_there.its of_cleared) ∙ slot))
+            found_over new.directories (laid_at (ways.PushOverDead rec) way).1 laid_over.pushes.lays)

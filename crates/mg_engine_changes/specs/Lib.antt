@@ -3,6 +3,8 @@ pub mod ApartLaws
 pub mod Asked
 pub mod AskedLaws
 pub mod BackBegun
+pub mod BackEntries
+pub mod BackEntryLaws
 pub mod BackFinds
 pub mod BackFindsLaws
 pub mod BackLaws
@@ -37,7 +39,11 @@ pub mod EngineBacks
 pub mod EngineGivenUp
 pub mod EngineOver
 pub mod EngineOverLaws
+pub mod EnterSomeLaws
+pub mod EnteredAllLaws
 pub mod Enters
+pub mod EntryOverLaws
+pub mod EntryStages
 pub mod Events
 pub mod FailedLaws
 pub mod FaultBackLaws
@@ -140,6 +146,7 @@ pub mod StageLaws
 pub mod Stages
 pub mod StandMade
 pub mod StandMadeLaws
+pub mod Starts
 pub mod StepLaws
 pub mod Steps
 pub mod StepsLaws
@@ -177,5 +184,6 @@ pub mod WayLaws
 pub mod Ways
 pub mod WorksBack
 pub mod WorksMade
+pub mod WriteWays
 pub mod Written
 pub mod WrittenLaws

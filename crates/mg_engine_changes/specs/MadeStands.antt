@@ -37,7 +37,7 @@ use Rattle.mg_records.specs.Reading.{shape_seen}
 use Rattle.mg_records.specs.Writing.{IsNewShape, new_table, rows_made}
 use Rattle.mg_grown_catalogs.specs.Grown.{EachMakes, comes_with_table, key_text, last_makes, says_of}
 use Rattle.mg_engine_changes.specs.TextLaws.{column_table}
-use Rattle.mg_image.specs.Catalog.{IsSameTable, catalog_table}
+use Rattle.mg_image.specs.Catalog.{catalog_table}
 use Rattle.mg_image.specs.Form.{Pages, packed_form}
 use Rattle.mg_image.specs.Tables.{Layout, Stand, stands_of}
 use Rattle.mg_image_overlays.specs.TableOwners.{IsOneOf}
@@ -72,7 +72,7 @@ use Rattle.mg_engine_meaning.specs.FrameLaws.{kept_all}
 use Rattle.mg_engine_meaning.specs.Frames.{WorksStay}
 use Rattle.mg_engine_meaning.specs.PlainTables.{HasPlainTables}
 use Rattle.mg_engine_changes.specs.PlainMade.{new_one, old_one}
-use Rattle.mg_engine_meaning.specs.Standings.{AreOfKept, AreTold, HasTips, Numbers, SeesAlike, ShowsIt, StandsFor, StandsWhile, Tables, asked_in, mode_kept, session_kept, sessions_in, standing_of, undo_kept, written_kept}
+use Rattle.mg_engine_meaning.specs.Standings.{AreOfKept, AreTold, HasTips, Numbers, SeesIt, ShowsIt, StandsFor, StandsWhile, Tables, asked_in, mode_kept, session_kept, sessions_in, standing_of, undo_kept, written_kept}
 use Rattle.mg_engine_meaning.specs.LawfulBases.{BasesAreLawful}
 use Rattle.mg_engine_changes.specs.MadePages.{MadePages}
 use Rattle.mg_engine_changes.specs.MadeShown.{rows_legal}
@@ -505,10 +505,10 @@ module _ (one_way : StandsOneWay packed_form) (begins : OpeningsBegin) (seen_law
   written_same u = all_work written_kept (made_with t.0 first_page keys core.works written_kept (λ key w. refl)
       (λ w. refl) (λ w. refl)) u
 
-  kept_seen : (u : ℕ) (x : Table) → IsOneOf (written_kept (work_of works_now u)) x → SeesAlike (tables_now u x.name) x
+  kept_seen : (u : ℕ) (x : Table) → IsOneOf (written_kept (work_of works_now u)) x → SeesIt (tables_now u x.name) x
   kept_seen u x is = at ((u == t.0) && same_name x.name name) refl
     where
-      was : SeesAlike (stands.tables u x.name) x
+      was : SeesIt (stands.tables u x.name) x
       was = stands.kept.seen u x (subst (λ (xs : List Table). IsOneOf xs x) (written_same u) is)
 
       both_on : (a b : Bool) → (a && b) ≡ true → (a ≡ true) × (b ≡ true)
@@ -516,13 +516,13 @@ module _ (one_way : StandsOneWay packed_form) (begins : OpeningsBegin) (seen_law
       both_on true false on = absurd (false≢true on)
       both_on false b on = absurd (false≢true on)
 
-      at : (b : Bool) → ((u == t.0) && same_name x.name name) ≡ b → SeesAlike (tables_now u x.name) x
+      at : (b : Bool) → ((u == t.0) && same_name x.name name) ≡ b → SeesIt (tables_now u x.name) x
       at true on =
           let (its, named) = both_on (u == t.0) (same_name x.name name) on in
           let none : stands.tables u x.name ≡ None = ap (λ (v : ℕ). stands.tables v x.name) (eqb-true u t.0 its)
           ∙ (ap (stands.tables t.0) (same_text x.name name (sym named)) ∙ none_seen) in
-          absurd (subst (λ (y : Option Table). SeesAlike y x) none was)
-      at false off = subst (λ (y : Option Table). SeesAlike y x)
+          let both : None ≡ Some x = sym none ∙ was in absurd cc
+      at false off = subst (λ (y : Option Table). SeesIt y x)
           (sym (ap (λ (b : Bool). if b then Some (table_at name shape page) else stands.tables u x.name) off)) was
 
   told_each : (u : ℕ) → AreTold core.catalog.pointer.0 (work_of works_now u)

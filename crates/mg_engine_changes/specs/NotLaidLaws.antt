@@ -1,6 +1,6 @@
 -- A version was not laid: the engine goes on with the refused event. A first batch may have been changed, which adds
 -- nothing; then pages were read, or a page write failed; and what was kept of the change is taken back.
-use Rattle.std.proofs.Common.{◌≡◌, ◌⊎◌, inl, inr, ℕ, List, ◌∷◌, Option, None, Some, refl, sym, ap, ◌∙◌, subst}
+use Rattle.std.proofs.Common.{◌≡◌, ◌⊎◌, inl, inr, ℕ, List, [], ◌∷◌, ◌++◌, Option, None, Some, refl, sym, ap, ◌∙◌, subst}
 use Rattle.mg_base.specs.declared.geometry.Geometry.{Geometry}
 use Rattle.mg_base.specs.Disk.{Meaning}
 use Rattle.mg_base.specs.Image.{Image}
@@ -30,10 +30,13 @@ use Rattle.mg_records.specs.Keeping.{WalksStay}
 use Rattle.mg_records.specs.Writing.{FitsShape, event_of}
 use Rattle.mg_records.specs.declared.write.Write.{Write}
 use Rattle.mg_batches.specs.Batches.{FailsOwn}
+use Rattle.mg_entries.specs.Entries.{LaysAll}
+use Rattle.mg_image.specs.Form.{Row}
+use Rattle.mg_model.specs.declared.table.Index.{Index}
+use Rattle.mg_pool.specs.Pool.{IsPool}
+use Rattle.mg_engine_changes.specs.EnteredAllLaws.{no_more}
 use Rattle.mg_base.specs.declared.numbers.RecId.{RecId}
 use Rattle.mg_records.specs.declared.write.Write.TheVariants as writes
-use Rattle.mg_row_writes.specs.Bare.{IsBare}
-use Rattle.mg_row_writes.specs.BareLaws.{bare_enters, bare_enters_not}
 use Rattle.mg_row_writes.specs.Changing.{FailsFirst, FailsOver, FailsReplacing}
 use Rattle.mg_row_writes.specs.Laying.{FailsEntering, FailsLay, FailsThen, no_first, no_place, not_cleared, not_entered, not_pushed, not_put_in}
 use Rattle.mg_row_writes.specs.Storing.{written_at}
@@ -58,8 +61,7 @@ use Rattle.mg_engine_meaning.specs.MemoryCallLaws.{idle_finds, memory_stands, no
 use Rattle.mg_engine_meaning.specs.Standings.{StandsFor, asked_kept, sessions_in, standing_of}
 use Rattle.mg_engine_meaning.specs.FrameLaws.{same_sessions}
 use Rattle.mg_engine_meaning.specs.StepLaws.{as_standing}
-use Rattle.mg_engine_changes.specs.BareTables.{given_bare}
-use Rattle.mg_engine_changes.specs.Laid.{DeadsStay, HasNoted, PlacesStay, ReadyStays, StaysOver}
+use Rattle.mg_engine_changes.specs.Laid.{DeadsStay, EntriesStayOver, HasNoted, PlacesStay, ReadyStays, StaysOver}
 use Rattle.mg_engine_changes.specs.MadeLaws.{StoreOn, all_on, on_then, own_on, read_on, row_on, stays_on}
 use Rattle.mg_engine_changes.specs.Notes.{AreCounts, HasRead}
 use Rattle.mg_engine_changes.specs.RefusalLaws.{begun_read, free_read, passing_event, whose_event}
@@ -80,7 +82,7 @@ record FailsFrom {D P : Type 0} (m : Meaning D) (places : Places P) (old : Core 
   told : TellsOf m before after fault
 
 module _ (retract : RetractTakesKeepBack) {D P : Type 0} (m : Meaning D) (places : Places P)
-    (counts_now : CountsNow m) (ready_stays : ReadyStays D P m) (places_stay : PlacesStay D P m) (deads_stay : DeadsStay D P m)
+    (counts_now : CountsNow m) (ready_stays : ReadyStays D P m) (entries_stay : EntriesStayOver D P m) (places_stay : PlacesStay D P m) (deads_stay : DeadsStay D P m)
     (unask : UnaskingLasts packed_form D FireLinks m) (idle_goes : IdleGoesOn D FireLinks m packed_form)
     (on : StandsOn packed_form) (quiet : QuietHolds packed_form) (begin : OpeningsBegin)
     (last : ReadsLast D FireLinks m packed_form) (failing : PageWritesFail D FireLinks m packed_form)
@@ -141,26 +143,48 @@ module _ (retract : RetractTakesKeepBack) {D P : Type 0} (m : Meaning D) (places
     told = own_tells m first new.store fills refuses failed.fails.fault own;
   }
 
-  -- the table has no index, if the engine stands for a history
-  bare : (o : Opening) (h : Entries) → StandsFor m old o h → IsBare table
-  bare o h stands = given_bare m old o h stands online t.0 begun.continues.1 table given
+  -- some entries had been laid: so they stay
+  entered_over : (first b : Pool D FireLinks) → IsPool m first → first.offline ≡ None
+      → first.geometry ≡ old.store.geometry
+      → ((o : Opening) (h : Entries) → StandsFor m old o h → StaysOver m old first o h t.0)
+      → (indexes later : List Index) → table.indexes ≡ indexes ++ later → (rec : RecId) (row : Row)
+      → LaysAll m indexes rec row first b → (o : Opening) (h : Entries) → StandsFor m old o h
+      → StaysOver m old b o h t.0
+  entered_over first b pool up geometry over indexes later parts rec row laid o h stands = entries_stay places old
+      failed.read t table write failed.before failed.version first b indexes later rec row o h core given kept fits
+      failed.ready stands (over o h stands) pool up geometry parts laid
 
-  -- or some entries had been laid, and the next one is not
-  entry_fails : (first : Pool D FireLinks) → StoreOn m failed.read.store first → (rec : RecId) (w : Write)
+  row_over : (first b : Pool D FireLinks) → IsPool m first → first.offline ≡ None
+      → first.geometry ≡ old.store.geometry
+      → ((o : Opening) (h : Entries) → StandsFor m old o h → StaysOver m old first o h t.0) → (rec : RecId) (w : Write)
+      → EntersRow m first b table rec w → (o : Opening) (h : Entries) → StandsFor m old o h
+      → StaysOver m old b o h t.0
+  row_over first b pool up geometry over rec (writes.Insert row) laid = entered_over first b pool up geometry over
+      table.indexes [] (sym (no_more table.indexes)) rec row laid
+  row_over first b pool up geometry over rec (writes.Change key row) laid = entered_over first b pool up geometry over
+      table.indexes [] (sym (no_more table.indexes)) rec row laid
+  row_over first b pool up geometry over rec (writes.Erase key) same o h stands =
+      subst (λ (s : Pool D FireLinks). StaysOver m old s o h t.0) (sym same) (over o h stands)
+
+  -- and the next one is not laid
+  entry_fails : (first : Pool D FireLinks) → StoreOn m failed.read.store first → IsPool m first
+      → first.geometry ≡ old.store.geometry
+      → ((o : Opening) (h : Entries) → StandsFor m old o h → StaysOver m old first o h t.0) → (rec : RecId) (w : Write)
       → FailsEntering m first new.store table rec w failed.fails.fault
       → FailsFrom m places old new.store t.0 failed.fails.fault
-  entry_fails first goes rec (writes.Insert row) own = at_second own.mid
+  entry_fails first goes pool geometry over rec (writes.Insert row) own = at_second own.mid
       (on_then m failed.read.store first own.mid goes (all_on m own.first rec row first own.mid goes.online own.laid))
-      (λ o h stands. absurd (bare_enters_not m table (bare o h stands) first new.store rec (writes.Insert row)
-      failed.fails.fault own)) _ _ own.refused
-  entry_fails first goes rec (writes.Change key row) own = at_second own.mid
+      (entered_over first own.mid pool goes.online geometry over own.first (own.index ∷ own.later) own.parts rec row
+      own.laid) _ _ own.refused
+  entry_fails first goes pool geometry over rec (writes.Change key row) own = at_second own.mid
       (on_then m failed.read.store first own.mid goes (all_on m own.first rec row first own.mid goes.online own.laid))
-      (λ o h stands. absurd (bare_enters_not m table (bare o h stands) first new.store rec (writes.Change key row)
-      failed.fails.fault own)) _ _ own.refused
-  entry_fails first goes rec (writes.Erase key) own = absurd own
+      (entered_over first own.mid pool goes.online geometry over own.first (own.index ∷ own.later) own.parts rec row
+      own.laid) _ _ own.refused
+  entry_fails first goes pool geometry over rec (writes.Erase key) own = absurd own
 
   -- or all of them, and the version is not
-  from_then : (first : Pool D FireLinks) → StoreOn m failed.read.store first
+  from_then : (first : Pool D FireLinks) → StoreOn m failed.read.store first → IsPool m first
+      → first.geometry ≡ old.store.geometry
       → ((o : Opening) (h : Entries) → StandsFor m old o h → StaysOver m old first o h t.0) → (rec : RecId)
       (fails : Pool D FireLinks → SpaceFault → Type 0)
       → ((e : Pool D FireLinks) → StoreOn m failed.read.store e
@@ -168,11 +192,11 @@ module _ (retract : RetractTakesKeepBack) {D P : Type 0} (m : Meaning D) (places
       → fails e failed.fails.fault → FailsFrom m places old new.store t.0 failed.fails.fault)
       → FailsThen m first new.store table rec write fails failed.fails.fault
       → FailsFrom m places old new.store t.0 failed.fails.fault
-  from_then first goes over rec fails each (not_entered own) = entry_fails first goes rec write own
-  from_then first goes over rec fails each (not_put_in entered enters own) = each entered
+  from_then first goes pool geometry over rec fails each (not_entered own) =
+      entry_fails first goes pool geometry over rec write own
+  from_then first goes pool geometry over rec fails each (not_put_in entered enters own) = each entered
       (on_then m failed.read.store first entered goes (row_on m first entered table rec write goes.online enters))
-      (λ o h stands. subst (λ (s : Pool D FireLinks). StaysOver m old s o h t.0)
-      (sym (bare_enters m table (bare o h stands) first entered rec write enters)) (over o h stands)) own
+      (row_over first entered pool goes.online geometry over rec write enters) own
 
   read_goes : StoreOn m failed.read.store failed.read.store
   read_goes = stays_on m failed.read.store read_up
@@ -186,22 +210,26 @@ module _ (retract : RetractTakesKeepBack) {D P : Type 0} (m : Meaning D) (places
       → FailsFrom m places old new.store t.0 failed.fails.fault
   from_way ways.Make is (no_place own) = at_once _ _ own
   from_way ways.Make is (no_first at placed takes own) = from_then placed
-      (own_on m failed.read.store placed _ takes)
+      (own_on m failed.read.store placed _ takes) takes.changed.pool
+      (takes.changed.geometry ∙ (takes.keeps.geometry ∙ since.keeps.geometry))
       (λ o h stands. places_stay places old failed.read t table write failed.before failed.version placed at o h core
       given kept fits failed.ready is takes stands) at
       (λ e given_. FailsFirst m e new.store table.pointer.0 at failed.version given_)
       (λ e on_ over first_. at_second e on_ over _ _ first_) own
-  from_way (ways.Push rec) is own = from_then failed.read.store read_goes read_over rec
+  from_way (ways.Push rec) is own = from_then failed.read.store read_goes since.keeps.pool
+      since.keeps.geometry read_over rec
       (λ e given_. FailsOver m e new.store rec failed.version given_)
       (λ e on_ over push. at_second e on_ over _ _ push) own
   from_way (ways.PushOverDead rec) is (not_cleared own) = at_once _ _ own
   from_way (ways.PushOverDead rec) is (not_pushed cleared takes own) = from_then cleared
-      (own_on m failed.read.store cleared _ takes)
+      (own_on m failed.read.store cleared _ takes) takes.changed.pool
+      (takes.changed.geometry ∙ (takes.keeps.geometry ∙ since.keeps.geometry))
       (λ o h stands. deads_stay places old failed.read t table write failed.before failed.version cleared rec o h core
       given kept fits failed.ready is takes stands) rec
       (λ e given_. FailsOver m e new.store rec failed.version given_)
       (λ e on_ over push. at_second e on_ over _ _ push) own
-  from_way (ways.Replace rec) is own = from_then failed.read.store read_goes read_over rec
+  from_way (ways.Replace rec) is own = from_then failed.read.store read_goes since.keeps.pool
+      since.keeps.geometry read_over rec
       (λ e given_. FailsReplacing m e new.store rec failed.version given_)
       (λ e on_ over own_. at_second e on_ over _ _ own_) own
 

@@ -15,7 +15,7 @@ use Rattle.mg_works.specs.Works.{Working, given_by, has_session, with_work, with
 use Rattle.mg_works.specs.WorksLaws.{none_untouched, with_its, with_none, with_others}
 use Rattle.mg_core.specs.declared.parts.Core.{Core}
 use Rattle.mg_engine_meaning.specs.KeptLaws.{kept_behind}
-use Rattle.mg_engine_meaning.specs.Standings.{AreTold, KeepsWritten, Numbers, SeesAlike, StandsFor, StandsWhile, Tables, asked_in, asked_kept, mode_kept, session_kept, sessions_in, standing_of, undo_kept, written_kept}
+use Rattle.mg_engine_meaning.specs.Standings.{AreTold, KeepsWritten, Numbers, SeesIt, StandsFor, StandsWhile, Tables, asked_in, asked_kept, mode_kept, session_kept, sessions_in, standing_of, undo_kept, written_kept}
 use Rattle.mg_taking_back.specs.Noting.{noted, noted_if}
 use Rattle.mg_engine_changes.specs.KeptTables.{NotedTablesAreKept, NotedWorksStay, NotesStay, WorksStay}
 
@@ -104,14 +104,13 @@ kept_by t catalog table works tables seen keeps = at (is_some (written_to works 
     same_work u (inl apart) = with_others t (with_written table) (λ w. refl) (λ w. refl) works u apart
     same_work u (inr none) = ap (λ (ws : List Working). work_of ws u) (none_untouched works t (with_written table) none)
 
-    alike : (u : ℕ) → u ≡ t → SeesAlike (tables u table.name) table
-    alike u e = subst (λ (x : Option Table). SeesAlike x table) (sym (ap (λ (n : ℕ). tables n table.name) e ∙ seen))
-        (record { name = refl; shape = refl; pointer = refl })
+    alike : (u : ℕ) → u ≡ t → SeesIt (tables u table.name) table
+    alike u e = ap (λ (n : ℕ). tables n table.name) e ∙ seen
 
     -- one that is kept is this one, or was kept
     found : (u : ℕ) (x : Table) → u ≡ t → (w : Working) → work_of works u ≡ Some w → IsOneOf (table ∷ w.written) x
-        → SeesAlike (tables u x.name) x
-    found u x e w is (inl same) = subst (λ (y : Table). SeesAlike (tables u y.name) y) same (alike u e)
+        → SeesIt (tables u x.name) x
+    found u x e w is (inl same) = subst (λ (y : Table). SeesIt (tables u y.name) y) same (alike u e)
     found u x e w is (inr more) = keeps.seen u x
         (subst (λ (v : Option Working). IsOneOf (written_kept v) x) (sym is) more)
 
@@ -137,7 +136,7 @@ kept_by t catalog table works tables seen keeps = at (is_some (written_to works 
     with_it : is_some (written_to works t table.pointer.0) ≡ false
         → KeepsWritten catalog (with_work t (with_written table) works) tables
     with_it none = record {
-      seen = λ u x. by_work (λ v. IsOneOf (written_kept v) x → SeesAlike (tables u x.name) x) u
+      seen = λ u x. by_work (λ v. IsOneOf (written_kept v) x → SeesIt (tables u x.name) x) u
           (λ same is. keeps.seen u x (subst (λ (v : Option Working). IsOneOf (written_kept v) x) same is))
           (λ e w was is. found u x e w was is);
       told = λ u. by_work (AreTold catalog) u

@@ -30,7 +30,7 @@ use Rattle.mg_engine_changes.specs.Known.{KnownOfBacks}
 use Rattle.mg_engine_changes.specs.Memory.{MayGoTo}
 use Rattle.mg_engine_changes.specs.Outcomes.{back_event}
 use Rattle.mg_engine_changes.specs.Stopped.{IsPart, each_front, part_of}
-use Rattle.mg_engine_changes.specs.Stopping.{StopsAs, stops_as}
+use Rattle.mg_engine_changes.specs.Stopping.{StopsFrom, enters_then, stops_as}
 use Rattle.mg_engine_changes.specs.StopsAfter.{StopsAfter, begun_as}
 use Rattle.mg_engine_changes.specs.ToTake.{AreKeysOf, EachChange, since_point}
 use Rattle.mg_table_takings.specs.Keys.{others_of}
@@ -137,28 +137,54 @@ module _ {D P : Type 0} (m : Meaning D) (known : KnownOfBacks D P m) (apart : Gi
             (midway m known old begun t point undo core has_begun o h stands shows)
             (knows m known old begun t point undo core has_begun o h stands shows) shows.catalog
 
-      -- and then a step is refused
-      stops_so : StopsAs m at_core stopped refusal → StopsAfter m old begun stopped t point refusal
-      stops_so stopping = record {
-        at = at_core;
-        taken = taken;
-        stopping = stopping;
-        over = λ o h stands shows. record {
-          keys = (part o h stands shows).keys;
-          more = (part o h stands shows).more ++ of_catalog (first_of (since_point point (deeds_by t.0 (steps o h))));
-          mid = at_core;
-          image = (has_taken o h stands shows).image;
-          taken = has_taken o h stands shows;
-          lost = nothing_lost m known.one_way old.store.geometry.size o h t.0
-              (standing_of old stands.numbers stands.tables) old.store at_core (has_taken o h stands shows).image
-              (asked_in (with_work t.0 unasked old.works)) (sessions_in old.works)
-              (lasts_of m packed_form old.store.geometry.size o h (entry (back_event t point) Fine) t.0
-              (has_taken o h stands shows).rest (standing_of old stands.numbers stands.tables) old.store at_core.store
-              (has_taken o h stands shows).image (asked_in (with_work t.0 unasked old.works)) (sessions_in old.works)
-              (has_taken o h stands shows).midway.cache) (known_store (has_taken o h stands shows).knows)
-              (has_taken o h stands shows).knows.size_is;
-        };
-      }
+      -- entries were laid then, or none
+      module _ (from : StopsFrom m at_core stopped t.0 refusal) where
+        abbrev entered : Core D
+        entered = record at_core { store = from.entered }
+
+        has_entered : (o : Opening) (h : Entries) (stands : StandsFor m old o h)
+            (shows : ShowsIt m old o h (standing_of old stands.numbers stands.tables))
+            → HasTakenKeys m old.store.geometry.size o h (entry (back_event t point) Fine) t.0
+            (since_point point (deeds_by t.0 (steps o h))) (since_point point (deeds_by t.0 (steps o h)))
+            (part o h stands shows).keys
+            ((part o h stands shows).more ++ of_catalog (first_of (since_point point (deeds_by t.0 (steps o h)))))
+            (standing_of old stands.numbers stands.tables) old.store old.store (shown old.store.dirty shows.image)
+            shows.stands.shows shows.image (asked_in (with_work t.0 unasked old.works)) (sessions_in old.works)
+            (begun_as old begun t.0) entered
+        has_entered o h stands shows = known.enters (begun_as old begun t.0) at_core from.entered
+            (standing_of old stands.numbers stands.tables) old.store.geometry.size o h (entry (back_event t point) Fine)
+            point t.0 (since_point point (deeds_by t.0 (steps o h))) (since_point point (deeds_by t.0 (steps o h)))
+            (part o h stands shows).keys
+            ((part o h stands shows).more ++ of_catalog (first_of (since_point point (deeds_by t.0 (steps o h)))))
+            old.store old.store (shown old.store.dirty shows.image) shows.stands.shows shows.image
+            (asked_in (with_work t.0 unasked old.works)) (sessions_in old.works) refl refl
+            (opening m known old begun t point undo core has_begun o h stands shows) shows.stands.legal
+            shows.stands.memory (goes m known old begun t point undo core has_begun o h stands shows)
+            (kept_begun m known old begun t point undo core has_begun o h stands shows) core.catalog.none
+            (has_taken o h stands shows) from.before_it
+
+        -- and then a step is refused
+        stops_so : StopsAfter m old begun stopped t point refusal
+        stops_so = record {
+          at = entered;
+          taken = enters_then m known.counts_now (begun_as old begun t.0) at_core from.entered t.0 taken from.before_it;
+          stopping = from.stopping;
+          over = λ o h stands shows. record {
+            keys = (part o h stands shows).keys;
+            more = (part o h stands shows).more ++ of_catalog (first_of (since_point point (deeds_by t.0 (steps o h))));
+            mid = entered;
+            image = (has_entered o h stands shows).image;
+            taken = has_entered o h stands shows;
+            lost = nothing_lost m known.one_way old.store.geometry.size o h t.0
+                (standing_of old stands.numbers stands.tables) old.store entered (has_entered o h stands shows).image
+                (asked_in (with_work t.0 unasked old.works)) (sessions_in old.works)
+                (lasts_of m packed_form old.store.geometry.size o h (entry (back_event t point) Fine) t.0
+                (has_entered o h stands shows).rest (standing_of old stands.numbers stands.tables) old.store entered.store
+                (has_entered o h stands shows).image (asked_in (with_work t.0 unasked old.works)) (sessions_in old.works)
+                (has_entered o h stands shows).midway.cache) (known_store (has_entered o h stands shows).knows)
+                (has_entered o h stands shows).knows.size_is;
+          };
+        }
 
   -- ---- where it stops
 

@@ -12,7 +12,7 @@ use Rattle.mg_engine_changes.specs.Known.{KnownOfBacks}
 use Rattle.mg_engine_changes.specs.Outcomes.{LeavesTheCatalog, back_event}
 use Rattle.mg_engine_changes.specs.RowsLost.{HasLost}
 use Rattle.mg_engine_changes.specs.RowsLostLaws.{nothing_lost}
-use Rattle.mg_engine_changes.specs.Stopping.{StopsAs, stops_as}
+use Rattle.mg_engine_changes.specs.Stopping.{StopsFrom, enters_then, stops_as}
 use Rattle.mg_engine_changes.specs.StopsAfter.{StopsAfter, begun_as}
 use Rattle.mg_engine_meaning.specs.Standings.{ShowsIt, StandsFor, asked_in, sessions_in, standing_of, undo_kept}
 use Rattle.mg_engine_steps.specs.MidwayLaws.{lasts_of}
@@ -79,8 +79,15 @@ module _ {D P : Type 0} (m : Meaning D) (known : KnownOfBacks D P m) (old begun 
   taken : HasTaken m (begun_as old begun t.0) stops.at
   taken = keys_taken m t.0 (begun_as old begun t.0) stops.at stops.given has_begun.continues.0 core.pool start_takes
 
-  stopping : StopsAs m stops.at stopped refusal
-  stopping = stops_as m known.counts_now stops.at stopped t.0 stops.change refusal taken.pool taken.on.online stops.fails
+  from : StopsFrom m stops.at stopped t.0 refusal
+  from = stops_as m known.counts_now stops.at stopped t.0 stops.change refusal taken.pool taken.on.online stops.fails
+
+  -- once entries were laid, or none
+  abbrev entered : Core D
+  entered = record stops.at { store = from.entered }
+
+  taken_then : HasTaken m (begun_as old begun t.0) entered
+  taken_then = enters_then m known.counts_now (begun_as old begun t.0) stops.at from.entered t.0 taken from.before_it
 
   -- ---- over a history
 
@@ -139,32 +146,42 @@ module _ {D P : Type 0} (m : Meaning D) (known : KnownOfBacks D P m) (old begun 
         (midway m known old begun t point undo core has_begun o h stands shows)
         (knows m known old begun t point undo core has_begun o h stands shows) shows.catalog
 
-    none_lost : HasLost m size o h t.0 s old.store stops.at stops.at has_taken.image has_taken.image
+    has_entered : HasTakenKeys m size o h e t.0 whole whole part.keys part.more s old.store old.store pages
+        shows.stands.shows shows.image (asked_in (with_work t.0 unasked old.works)) (sessions_in old.works)
+        (begun_as old begun t.0) entered
+    has_entered = known.enters (begun_as old begun t.0) stops.at from.entered s size o h e point t.0 whole whole part.keys
+        part.more old.store old.store pages shows.stands.shows shows.image (asked_in (with_work t.0 unasked old.works))
+        (sessions_in old.works) refl refl (opening m known old begun t point undo core has_begun o h stands shows)
+        shows.stands.legal shows.stands.memory (goes m known old begun t point undo core has_begun o h stands shows)
+        (kept_begun m known old begun t point undo core has_begun o h stands shows) core.catalog.none has_taken
+        from.before_it
+
+    none_lost : HasLost m size o h t.0 s old.store entered entered has_entered.image has_entered.image
         (asked_in (with_work t.0 unasked old.works)) (sessions_in old.works)
-    none_lost = nothing_lost m known.one_way size o h t.0 s old.store stops.at has_taken.image
+    none_lost = nothing_lost m known.one_way size o h t.0 s old.store entered has_entered.image
         (asked_in (with_work t.0 unasked old.works)) (sessions_in old.works)
-        (lasts_of m packed_form size o h e t.0 has_taken.rest s old.store stops.at.store has_taken.image
-        (asked_in (with_work t.0 unasked old.works)) (sessions_in old.works) has_taken.midway.cache)
+        (lasts_of m packed_form size o h e t.0 has_entered.rest s old.store entered.store has_entered.image
+        (asked_in (with_work t.0 unasked old.works)) (sessions_in old.works) has_entered.midway.cache)
         (record {
-          pool_is = has_taken.knows.pool_is;
-          geometry = has_taken.knows.geometry;
-          online = has_taken.knows.online;
-          tells = has_taken.knows.tells;
-        }) has_taken.knows.size_is
+          pool_is = has_entered.knows.pool_is;
+          geometry = has_entered.knows.geometry;
+          online = has_entered.knows.online;
+          tells = has_entered.knows.tells;
+        }) has_entered.knows.size_is
 
   -- ---- both
 
   pub stops_after : StopsAfter m old begun stopped t point refusal
   stops_after = record {
-    at = stops.at;
-    taken = taken;
-    stopping = stopping;
+    at = entered;
+    taken = taken_then;
+    stopping = from.stopping;
     over = λ o h stands shows. record {
       keys = (part o h stands shows).keys;
       more = (part o h stands shows).more;
-      mid = stops.at;
-      image = (has_taken o h stands shows).image;
-      taken = has_taken o h stands shows;
+      mid = entered;
+      image = (has_entered o h stands shows).image;
+      taken = has_entered o h stands shows;
       lost = none_lost o h stands shows;
     };
   }

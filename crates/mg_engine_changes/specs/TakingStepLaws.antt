@@ -11,11 +11,14 @@ use Rattle.mg_engine_steps.specs.MidwayLaws.{holds_back, lasts_of}
 use Rattle.mg_engine_steps.specs.Shown.{ShowsMidway, ShowsOnward, TakesKeyBack}
 use Rattle.mg_engine_steps.specs.Batches.{ReadsLast}
 use Rattle.mg_engine_steps.specs.Knowing.{WasChanged}
-use Rattle.mg_engine_changes.specs.TakingSteps.{ComesBack, GoesOut, KeysGoOn, StandsMidway, TakesKeyOf, TakesKeysOf, no_keys, one_key}
+use Rattle.mg_engine_changes.specs.TakingSteps.{ComesBack, GoesOut, KeysGoOn, LaysEntryOf, StandsEntered, StandsMidway, TakesKeyOf, TakesKeysOf, no_keys, one_entry, one_key, some_read}
+use Rattle.mg_entries.specs.Entries.{PutsEntry}
+use Rattle.mg_entry_steps.specs.EntryMidway.{EntriesStayMidway, StaysMidway}
+use Rattle.mg_entry_ties.specs.IndexPlaces.{HasRoot}
 use Rattle.mg_image.specs.Form.{Pages, packed_form}
 use Rattle.mg_image.specs.Histories.{row_change}
 use Rattle.mg_image.specs.Records.{Reading}
-use Rattle.mg_image.specs.Sound.{facts_by}
+use Rattle.mg_image.specs.Sound.{IsSoundBy, facts_by}
 use Rattle.mg_image.specs.Tables.{Layout, stands_of, table_at}
 use Rattle.mg_lasting.specs.Crashes.{HoldsAcknowledged, LeavesSince}
 use Rattle.mg_lasting.specs.Lasting.{LastsOn}
@@ -26,7 +29,10 @@ use Rattle.mg_model.specs.declared.change.Change.{Change}
 use Rattle.mg_model.specs.declared.change.Point.{Point}
 use Rattle.mg_model.specs.declared.opening.Opening.{Opening}
 use Rattle.mg_model.specs.declared.table.Table.{Table}
+use Rattle.mg_image_overlays.specs.Growing.{IsTableOf}
 use Rattle.mg_image_overlays.specs.OneLayout.{StandsOneWay}
+use Rattle.mg_image_overlays.specs.Whose.{IsTableFor}
+use Rattle.mg_node.specs.declared.entry.Entry.{Entry as IndexEntry}
 use Rattle.mg_overlays.specs.Overlays.{left_state}
 use Rattle.mg_pool.specs.Batch.{Changed}
 use Rattle.mg_pool.specs.Dirty.{DirtyPages}
@@ -34,7 +40,7 @@ use Rattle.mg_pool.specs.Pool.{shown}
 use Rattle.mg_pool.specs.declared.pool.Pool.{Pool}
 use Rattle.mg_pool_overlays.specs.Needs.{Asked, Sessions}
 use Rattle.mg_space.specs.View.{KeepsStore}
-use Rattle.mg_ties.specs.Changed.{KeptIn}
+use Rattle.mg_ties.specs.Changed.{KeptIn, fresh}
 use Rattle.mg_engine_steps.specs.Standing.{Remembers, ShowsHistory, Standing}
 use Rattle.mg_engine_steps.specs.Versions.{SpeaksFor}
 use Rattle.mg_value.specs.declared.value.Value.{Value}
@@ -167,10 +173,55 @@ module _ {D L : Type 0} (m : Meaning D) (one_way : StandsOneWay packed_form) (ou
         key (row_change at_key.change) rec table at_key.to_take was_of takes;
   }
 
+-- ---- an entry
+
+module _ {D L : Type 0} (m : Meaning D) (stay : EntriesStayMidway packed_form D L m) (o : Opening) (h : Entries)
+    (e : Entry) (point : Point) (s : Standing) (start : Pool D L) (begun : Pages) (asked : Asked) (session : Sessions)
+    (t : ℕ) (whole left : List Change) (opening : MayBegin o) (legal : IsLegal o h) (memory : Remembers o h s)
+    (goes : GoesBack o h e point s asked t) where
+  -- at the size of the cache
+  entry_at : (before after : Pool D L) (i j : Image) (batch : Changed) → WasChanged m before after i j batch
+      → (table : Table) (root : ℕ) (x : IndexEntry) → PutsEntry before i fresh batch root x
+      → HasRoot table.indexes root → (first : ShowsHistory packed_form before.geometry.size o h s begun)
+      (midway : StandsMidway m before.geometry.size o h e t whole left s start before begun first i asked session)
+      → IsTableOf midway.pages.layout table
+      → IsTableFor packed_form before.geometry.size t s.state (shown before.dirty i) table
+      → StandsEntered m before.geometry.size o h e t whole left s start before after begun first i j asked session midway
+      root x
+  entry_at before after i j batch was table root x puts has first midway its whose = record {
+    entries = on.entries;
+    then_ = record { cache = on.cache; pages = on.pages };
+    layout = on.layout;
+    reading = on.reading;
+    has = on.has;
+  }
+    where
+      on : StaysMidway m packed_form before.geometry.size o h e t whole left s start before after begun first i j asked
+          session midway.pages root x
+      on = stay o h e point s start before after begun first i j batch asked session t whole left table root x opening
+          legal memory goes midway.cache midway.pages was puts its has whose
+
+  pub entry_on : (size : ℕ) (first : ShowsHistory packed_form size o h s begun) (before after : Pool D L) (i j : Image)
+      (laid : LaysEntryOf m size s t before after i j)
+      (midway : StandsMidway m size o h e t whole left s start before begun first i asked session)
+      → StandsEntered m size o h e t whole left s start before after begun first i j asked session midway laid.root
+      laid.entry
+  entry_on size first before after i j laid midway =
+      subst (λ (n : ℕ). (its : ShowsHistory packed_form n o h s begun)
+      (stands : StandsMidway m n o h e t whole left s start before begun its i asked session)
+      → ((layout : Layout) (reading : Reading)
+      → IsSoundBy packed_form n (left_state everyone s.state) (shown before.dirty i) layout reading
+      → IsTableOf layout laid.table) → IsTableFor packed_form n t s.state (shown before.dirty i) laid.table
+      → StandsEntered m n o h e t whole left s start before after begun its i j asked session stands laid.root laid.entry)
+      laid.size_is
+      (λ its stands there whose. entry_at before after i j laid.batch laid.was laid.table laid.root laid.entry laid.puts
+      laid.has its stands (there stands.pages.layout stands.pages.reading stands.pages.sound) whose)
+      first midway laid.stands laid.whose
+
 -- ---- all keys
 
 module _ {D L : Type 0} (m : Meaning D) (reads : ReadsLast D L m packed_form) (one_way : StandsOneWay packed_form)
-    (out : KeysGoOut packed_form D L m) (back : KeysComeBack packed_form D L m) (onward : ShowsOnward packed_form)
+    (stay : EntriesStayMidway packed_form D L m) (out : KeysGoOut packed_form D L m) (back : KeysComeBack packed_form D L m) (onward : ShowsOnward packed_form)
     (o : Opening) (h : Entries) (e : Entry) (point : Point) (s : Standing) (start : Pool D L) (begun : Pages)
     (asked : Asked) (session : Sessions) (t : ℕ) (whole : List Change) (opening : MayBegin o) (legal : IsLegal o h)
     (memory : Remembers o h s) (goes : GoesBack o h e point s asked t) where
@@ -202,9 +253,15 @@ module _ {D L : Type 0} (m : Meaning D) (reads : ReadsLast D L m packed_form) (o
   keys_on size first all left rest before after i j (one_key {keys = keys} c mid k taken more) midway =
       keys_on size first keys (without_key c.table c.key left) rest mid after k j more
       (one_goes_on size first left before mid i k c.table c.key taken midway)
+  keys_on size first all left rest before after i j (some_read mid keeps tells page_size more) midway =
+      keys_on size first all left rest mid after i j more (read_midway m reads size o h e point s start before mid begun
+      first i asked session t whole left opening legal goes keeps tells page_size midway)
+  keys_on size first all left rest before after i j (one_entry mid k laid more) midway =
+      keys_on size first all left rest mid after k j more (entry_on m stay o h e point s start begun asked session t whole
+      left opening legal memory goes size first before mid i k laid midway).then_
 
 pub keys_go_on : (D L : Type 0) (m : Meaning D) → ReadsLast D L m packed_form → StandsOneWay packed_form
-    → KeysGoOut packed_form D L m → KeysComeBack packed_form D L m → ShowsOnward packed_form → KeysGoOn D L m
-keys_go_on D L m reads one_way out back onward size o h e point s start before after begun first i j asked session t
-    whole left rest keys opening legal memory goes taken midway = keys_on m reads one_way out back onward o h e point s
+    → EntriesStayMidway packed_form D L m → KeysGoOut packed_form D L m → KeysComeBack packed_form D L m → ShowsOnward packed_form → KeysGoOn D L m
+keys_go_on D L m reads one_way stay out back onward size o h e point s start before after begun first i j asked session t
+    whole left rest keys opening legal memory goes taken midway = keys_on m reads one_way stay out back onward o h e point s
     start begun asked session t whole opening legal memory goes size first keys left rest before after i j taken midway

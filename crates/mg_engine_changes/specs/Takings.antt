@@ -1,13 +1,14 @@
 -- A key is taken back by the core, in a table that its transaction keeps.
-use Rattle.std.specs.Prelude.{◌≡◌, ◌≢◌, ◌∷◌, ℕ, true, List, Option, None, Some}
+use Rattle.std.specs.Prelude.{◌≡◌, ◌≢◌, ◌∷◌, ℕ, true, List, [], Option, None, Some}
 use Rattle.mg_base.specs.Disk.{Meaning}
 use Rattle.mg_base.specs.Image.{Image}
 use Rattle.mg_base.specs.declared.numbers.RecId.{RecId}
-use Rattle.mg_base.specs.declared.transaction.TxState.TheVariants.{Active}
 use Rattle.mg_engine_meaning.specs.PlainTables.{HasPlainTables}
 use Rattle.mg_engine_meaning.specs.Standings.{KeepsWritten}
 use Rattle.mg_engine_steps.specs.Standing.{Remembers, ShowsHistory, Standing}
-use Rattle.mg_engine_changes.specs.TakingSteps.{StandsMidway, TakesKeyOf}
+use Rattle.mg_engine_changes.specs.TakingSteps.{StandsMidway, TakesKeysOf}
+use Rattle.mg_engine_steps.specs.Again.{without_key}
+use Rattle.mg_engine_steps.specs.Midway.{GoesBack}
 use Rattle.mg_image.specs.Form.{Pages, packed_form}
 use Rattle.mg_model.specs.Catalog.{catalog_name}
 use Rattle.mg_model.specs.Changes.{has_change}
@@ -15,6 +16,7 @@ use Rattle.mg_model.specs.History.{Entries, Entry}
 use Rattle.mg_model.specs.Legal.{IsLegal, MayBegin}
 use Rattle.mg_model.specs.Machine.{own}
 use Rattle.mg_model.specs.declared.change.Change.{Change}
+use Rattle.mg_model.specs.declared.change.Point.{Point}
 use Rattle.mg_model.specs.declared.opening.Opening.{Opening}
 use Rattle.mg_model.specs.declared.table.Table.{Table}
 use Rattle.mg_pool.specs.Pool.{IsPool, shown}
@@ -38,12 +40,13 @@ pub record KnowsCache {D : Type 0} (m : Meaning D) (size : ℕ) (s : Standing) (
   pub tells : Tells m pool.disk i
   pub plain : HasPlainTables size s.state (shown pool.dirty i)
 
--- A key of a table was taken back: the step is one of the laws, over an image that the disk tells then.
+-- A key of a table was taken back: the steps are those of the laws, readings and entries first, over an image that the
+-- disk tells then.
 pub record HasTakenKey {D : Type 0} (m : Meaning D) (size : ℕ) (o : Opening) (h : Entries) (e : Entry) (t : ℕ)
     (whole left : List Change) (s : Standing) (start before after : Pool D FireLinks) (i : Image) (asked : Asked)
     (session : Sessions) (speaker : List ℕ → Value → Option RecId) (c : Change) : Type 0 where
   pub image : Image
-  pub step : TakesKeyOf m size o h e t s speaker left before after i image c.table c.key
+  pub steps : TakesKeysOf m size o h e t s speaker (c ∷ []) left (without_key c.table c.key left) before after i image
   pub pool_is : IsPool m after
   pub geometry : after.geometry ≡ before.geometry
   pub online : after.offline ≡ None
@@ -51,11 +54,11 @@ pub record HasTakenKey {D : Type 0} (m : Meaning D) (size : ℕ) (o : Opening) (
 
 -- what the core takes back for a key of a table that the transaction keeps under the number of its name
 abbrev pub CoresTakeKeys : (D : Type 0) → Meaning D → Type 0
-CoresTakeKeys D m = (size : ℕ) (o : Opening) (h : Entries) (e : Entry) (t : ℕ) (whole left : List Change)
+CoresTakeKeys D m = (size : ℕ) (o : Opening) (h : Entries) (e : Entry) (point : Point) (t : ℕ) (whole left : List Change)
     (s : Standing) (start before after : Pool D FireLinks) (begun : Pages)
     (first : ShowsHistory packed_form size o h s begun) (i : Image) (asked : Asked) (session : Sessions)
     → StandsMidway m size o h e t whole left s start before begun first i asked session → MayBegin o
-    → IsLegal o h → Remembers o h s → s.state t ≡ Active → (catalog : ℕ) (works : List Working)
+    → IsLegal o h → Remembers o h s → GoesBack o h e point s asked t → (catalog : ℕ) (works : List Working)
     → KeepsWritten catalog works s.table → KnowsCache m size s before i → (c : Change) → c.table ≢ catalog_name
     → has_change left c.table c.key ≡ true → has_change (own o h t) c.table c.key ≡ true → (table : Table)
     → written_to works t (s.number t c.table) ≡ Some table

@@ -1,11 +1,9 @@
 -- A table that a transaction has kept is the one that stands on the pages.
-use Rattle.std.proofs.Common.{◌≡◌, ◌≢◌, ◌⊎◌, inl, inr, ◌==◌, ◌++◌, ap, refl, sym, subst, ◌∙◌, ℕ, Bool, true, false, List, [], ◌∷◌, Option, None, Some}
+use Rattle.std.proofs.Common.{◌≡◌, ◌≢◌, inl, inr, ◌==◌, ◌++◌, ap, refl, sym, subst, ◌∙◌, ℕ, Bool, true, false, List, [], ◌∷◌, Option, None, Some}
 use Rattle.std.specs.Cmp.Lexicographic.{same_text}
 use Rattle.std.specs.List.{flat_map}
-use Rattle.std.specs.Prelude.{if◌then◌else◌, map}
+use Rattle.std.specs.Prelude.{if◌then◌else◌}
 use Rattle.std.proofs.lemmas.Bool.{eqb-true, false≢true}
-use Rattle.mg_engine_meaning.specs.Falling.{same_through}
-use Rattle.mg_engine_meaning.specs.KeptLaws.{alike_some}
 use Rattle.mg_engine_meaning.specs.Standings.{KeepsWritten, written_kept}
 use Rattle.mg_engine_steps.specs.Known.{IsShown, seen_is_shown}
 use Rattle.mg_engine_steps.specs.Standing.{FindsTables, HasFirstPage, Standing}
@@ -15,11 +13,12 @@ use Rattle.mg_image.specs.Reached.{tips_of}
 use Rattle.mg_image.specs.Records.{Reading}
 use Rattle.mg_image.specs.Sound.{HasTablePages, IsSoundBy}
 use Rattle.mg_image.specs.Tables.{Has, HasStand, IsOnce, Layout, LinkChain, Stand, ended, goes, pages_of, stands_of}
+use Rattle.mg_image_overlays.specs.Growing.{IsTableOf}
+use Rattle.mg_image_overlays.specs.OneTable.{stands_in}
 use Rattle.mg_image_overlays.specs.Reach.{once_back, once_front}
 use Rattle.mg_image_overlays.specs.TableOwners.{IsOneOf}
-use Rattle.mg_model.specs.Changes.{has_change, same_name}
+use Rattle.mg_model.specs.Changes.{same_name}
 use Rattle.mg_model.specs.History.{Entries}
-use Rattle.mg_model.specs.Machine.{own}
 use Rattle.mg_model.specs.Openings.{everyone}
 use Rattle.mg_model.specs.ReadLaws.{same_name_itself}
 use Rattle.mg_model.specs.declared.opening.Opening.{Opening}
@@ -29,7 +28,6 @@ use Rattle.mg_overlays.specs.Overlays.{left_state}
 use Rattle.mg_base.specs.declared.numbers.PageNo.{PageNo}
 use Rattle.mg_base.specs.declared.transaction.TxState.{TxState}
 use Rattle.mg_pointer.specs.PointerPage.{next_in}
-use Rattle.mg_value.specs.declared.value.Value.{Value}
 use Rattle.mg_works.specs.Works.{Working, work_of, written_by, written_in, written_to}
 
 -- ---- what is kept under a number
@@ -64,7 +62,7 @@ in_work None number = refl
 in_work (Some w) number = refl
 
 module _ (works : List Working) (t number : ℕ) (table : Table) (kept : written_to works t number ≡ Some table) where
-  kept_in : written_in (written_kept (work_of works t)) number ≡ Some table
+  pub kept_in : written_in (written_kept (work_of works t)) number ≡ Some table
   kept_in = sym (in_work (work_of works t) number) ∙ kept
 
   first_of_kept : table.pointer.0 ≡ number
@@ -75,14 +73,16 @@ module _ (works : List Working) (t number : ℕ) (table : Table) (kept : written
 module _ (o : Opening) (h : Entries) (s : Standing) (t : ℕ) (layout : Layout) (catalog : ℕ) (works : List Working)
     (finds : FindsTables o h s layout t) (keeps : KeepsWritten catalog works s.table) where
   pub one_stands : (table : Table) → IsOneOf (written_kept (work_of works t)) table → IsShown layout table
-  one_stands table one =
-      let (x, is, same) = alike_some (s.table t table.name) table (keeps.seen t table one) in
-      let it = seen_is_shown layout x (finds.seen table.name x is) in
-      record { its = it.its; stands = it.stands; same = same_through it.its x table it.same same }
+  one_stands table one = seen_is_shown layout table (finds.seen table.name table (keeps.seen t table one))
 
   pub kept_stands : (number : ℕ) (table : Table) → written_to works t number ≡ Some table → IsShown layout table
   kept_stands number table kept =
       one_stands table (one_in (written_kept (work_of works t)) number table (kept_in works t number table kept))
+
+  -- with all its indexes
+  pub kept_itself : (number : ℕ) (table : Table) → written_to works t number ≡ Some table → IsTableOf layout table
+  kept_itself number table kept = stands_in layout table (inr (finds.seen table.name table (keeps.seen t table
+      (one_in (written_kept (work_of works t)) number table (kept_in works t number table kept)))))
 
 pub kept_tables_stand : KeptTablesStand
 kept_tables_stand o h s t layout catalog works finds keeps number table kept =

@@ -63,9 +63,9 @@ pub use row_writes::{
     stored_rows_are_coded, unread_writes_give, ways_are_free, writes_keep_plain, writes_keep_tips,
 };
 pub use takings::{
-    backs_are_known, backs_follow, backs_give, cores_take_all, cores_take_keys, engines_give_up,
-    engines_go_back_to, engines_take_back, given_up_is_shown, its_records_are_found,
-    its_tables_may_be_written, kept_tables_stand, key_steps_are_taken, keys_are_taken, keys_go_on,
-    keys_keep_lists, keys_keep_pages, others_walk_on, stops_go_on, tables_are_found_back,
-    undo_lists_give_keys,
+    backs_are_known, backs_follow, backs_give, cores_enter_some, cores_take_all, cores_take_keys,
+    engines_give_up, engines_go_back_to, engines_take_back, given_up_is_shown,
+    its_records_are_found, its_tables_may_be_written, kept_tables_stand, key_steps_are_taken,
+    keys_are_taken, keys_enter_midway, keys_go_on, keys_keep_lists, keys_keep_pages,
+    others_walk_on, stops_go_on, tables_are_found_back, undo_lists_give_keys,
 };

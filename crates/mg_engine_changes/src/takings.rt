@@ -43,7 +43,10 @@ pub use keys::{
     keys_keep_pages, others_walk_on, stops_go_on,
 };
 pub use outcomes::{backs_are_known, backs_give};
-pub use takings::{cores_take_all, cores_take_keys, engines_go_back_to, undo_lists_give_keys};
+pub use takings::{
+    cores_enter_some, cores_take_all, cores_take_keys, engines_go_back_to, keys_enter_midway,
+    undo_lists_give_keys,
+};
 pub use undoing::{
     backs_follow, engines_take_back, its_records_are_found, keys_are_taken, keys_go_on,
     tables_are_found_back,

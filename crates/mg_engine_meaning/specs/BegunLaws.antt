@@ -75,7 +75,7 @@ use Rattle.mg_engine_meaning.specs.PlainTables.{HasPlainTables}
 use Rattle.mg_engine_meaning.specs.KeptLaws.{IsBare, StaysKept, kept_each}
 use Rattle.mg_engine_meaning.specs.LawfulLaws.{legal_of, memory_of, opening_of}
 use Rattle.mg_engine_meaning.specs.Meaning.{AreNext, Places, WorksFor, means, place_at}
-use Rattle.mg_engine_meaning.specs.Standings.{AreSeen, HasTips, KeepsWritten, SeesAlike, ShowsIt, StandsFor, StandsWhile, Tables, asked_in, mode_kept, session_kept, sessions_in, standing_of, undo_kept, written_kept}
+use Rattle.mg_engine_meaning.specs.Standings.{AreSeen, HasTips, KeepsWritten, SeesIt, ShowsIt, StandsFor, StandsWhile, Tables, asked_in, mode_kept, session_kept, sessions_in, standing_of, undo_kept, written_kept}
 use Rattle.mg_engine_meaning.specs.StepLaws.{as_standing, shows_of}
 use Rattle.mg_engine_meaning.specs.BasesLaws.{bases_after}
 use Rattle.mg_engine_meaning.specs.DrawnStores.{drawn_catalog, drawn_data, drawn_goes, drawn_offline, drawn_unmarked}
@@ -203,7 +203,7 @@ module _ {D P : Type 0} (m : Meaning D) (places : Places P) (known : KnownOfDraw
       at u (inr ne) = inr (record {
         written = ap written_kept (others u ne);
         changes = ap (λ (x : Option Working). (undo_kept x).changes) (others u ne);
-        seen = λ table alike. subst (λ (x : Option Table). SeesAlike x table)
+        seen = λ table alike. subst (λ (x : Option Table). SeesIt x table)
             (sym (others_now tables its u table.name (ne_eqb tx.0 u (λ same. ne (sym same))))) alike;
       })
 

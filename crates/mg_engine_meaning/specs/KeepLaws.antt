@@ -25,7 +25,6 @@ use Rattle.mg_pool.specs.Pool.{shown}
 use Rattle.mg_pool_overlays.specs.Needs.{Asked, Sessions}
 use Rattle.mg_seek.specs.TableRows.{IsTableSeen}
 use Rattle.mg_engine_steps.specs.Standing.{FindsTables, IsSeenAs, Remembers, RemembersOne, ShowsHistory, Standing, Stands}
-use Rattle.mg_image.specs.Catalog.{IsSameTable}
 use Rattle.mg_model.specs.Openings.{everyone}
 use Rattle.mg_overlays.specs.Overlays.{left_state}
 use Rattle.mg_txlist.specs.TxList.{said}
@@ -38,13 +37,12 @@ use Rattle.mg_core.specs.Tables.{SeesTable}
 use Rattle.mg_engine_steps.specs.Known.{KnowsPages}
 use Rattle.mg_engine_steps.specs.Tables.{TablesAreTold}
 use Rattle.mg_engine_steps.specs.Walking.{WalkPlace}
-use Rattle.mg_engine_meaning.specs.Falling.{same_through}
 use Rattle.mg_image_overlays.specs.TableOwners.{IsOneOf}
-use Rattle.mg_engine_meaning.specs.KeptLaws.{alike_some, alike_there, kept_each, made_kept}
+use Rattle.mg_engine_meaning.specs.KeptLaws.{kept_each, made_kept, one_there}
 use Rattle.mg_engine_meaning.specs.FrameLaws.{commits_of, kept_all, kept_with, others_given, same_sessions, works_with}
 use Rattle.mg_engine_meaning.specs.Frames.{WorksStay}
 use Rattle.mg_engine_meaning.specs.Meaning.{AreNext, Places, means, place_at}
-use Rattle.mg_engine_meaning.specs.Standings.{AreSeen, KeepsWritten, Numbers, SeesAlike, ShowsIt, StandsFor, StandsWhile, Tables, asked_in, asked_kept, mode_kept, sessions_in, standing_of, undo_kept}
+use Rattle.mg_engine_meaning.specs.Standings.{AreSeen, KeepsWritten, Numbers, SeesIt, ShowsIt, StandsFor, StandsWhile, Tables, asked_in, asked_kept, mode_kept, sessions_in, standing_of, undo_kept}
 use Rattle.mg_engine_meaning.specs.StepLaws.{as_standing, shows_of}
 use Rattle.mg_engine_steps.specs.Found.{FoundTablesStand}
 
@@ -289,28 +287,26 @@ module _ {D P : Type 0} (m : Meaning D) (places : Places P) (begin : OpeningsBeg
         stands.tables (tables_with stands.tables) stands.kept (λ u. inr (made_kept t.0 (with_table table) (λ w. refl)
         (λ w. refl) (λ w. refl) (λ w. refl) old.works u (stands.tables u) (tables_with stands.tables u) (alike u)))
       where
-        alike : (u : ℕ) (kept : Table) → SeesAlike (stands.tables u kept.name) kept
-            → SeesAlike (tables_with stands.tables u kept.name) kept
+        alike : (u : ℕ) (kept : Table) → SeesIt (stands.tables u kept.name) kept
+            → SeesIt (tables_with stands.tables u kept.name) kept
         alike u kept was = at (u == t.0) refl
           where
-            one : u ≡ t.0 → kept.name ≡ table.name → IsSameTable table kept
-            one its name =
-                let (x, is, same) = alike_some (stands.tables u kept.name) kept was in
-                same_through table x kept (alike_there old.store.geometry.size (left_state everyone (said old.list))
-                pages shows.stands.shows.layout shows.stands.shows.reading shows.stands.shows.sound table x
-                stays_there ((shows.stands.shows.tables t.0 continues.1).seen kept.name x
-                (ap (λ (v : ℕ). stands.tables v kept.name) (sym its) ∙ is)) (sym name ∙ sym same.name)) same
+            one : u ≡ t.0 → kept.name ≡ table.name → table ≡ kept
+            one its name = one_there old.store.geometry.size (left_state everyone (said old.list)) pages
+                shows.stands.shows.layout shows.stands.shows.reading shows.stands.shows.sound table kept stays_there
+                ((shows.stands.shows.tables t.0 continues.1).seen kept.name kept
+                (ap (λ (v : ℕ). stands.tables v kept.name) (sym its) ∙ was)) (sym name)
 
-            at : (b : Bool) → (u == t.0) ≡ b → SeesAlike
+            at : (b : Bool) → (u == t.0) ≡ b → SeesIt
                 (cond b (cond (same_name kept.name table.name) (Some table) (stands.tables u kept.name))
                 (stands.tables u kept.name)) kept
             at false other = was
             at true own_ = by (same_name kept.name table.name) refl
               where
                 by : (b : Bool) → same_name kept.name table.name ≡ b
-                    → SeesAlike (cond b (Some table) (stands.tables u kept.name)) kept
+                    → SeesIt (cond b (Some table) (stands.tables u kept.name)) kept
                 by false other = was
-                by true same = one (eqb-true u t.0 own_) (same_text kept.name table.name (sym same))
+                by true same = ap Some (one (eqb-true u t.0 own_) (same_text kept.name table.name (sym same)))
 
     pub keep_shows : ShowsIt m (record old { works = with_work t.0 (with_table table) old.works }) o h
         (standing_of (record old { works = with_work t.0 (with_table table) old.works }) stands.numbers

@@ -3,59 +3,38 @@ use Rattle.std.proofs.Common.{◌≡◌, ◌≢◌, ◌⊎◌, inl, inr, ◌==�
 use Rattle.std.specs.Prelude.{if◌then◌else◌, is_some, map}
 use Rattle.std.proofs.lemmas.Bool.{cases_eq, eqb-true, false≢true}
 use Rattle.mg_base.specs.declared.transaction.TxState.{TxState}
-use Rattle.mg_engine_steps.specs.Known.{IsShown, seen_is_shown}
-use Rattle.mg_image.specs.Catalog.{IsSameTable}
 use Rattle.mg_image.specs.Form.{Pages, packed_form}
 use Rattle.mg_image.specs.Records.{Reading}
 use Rattle.mg_image.specs.Sound.{IsSoundBy}
 use Rattle.mg_image.specs.Tables.{Layout}
 use Rattle.mg_image_overlays.specs.TableOwners.{IsOneOf}
 use Rattle.mg_model.specs.declared.table.Table.{Table}
-use Rattle.mg_image_overlays.specs.OneTable.{one_table}
+use Rattle.mg_image_overlays.specs.OneTable.{one_table, stands_in}
 use Rattle.mg_undo.specs.declared.changes.Change.{Change}
 use Rattle.mg_undo.specs.declared.changes.Was.{Was}
 use Rattle.mg_value.specs.declared.value.Value.{Value}
 use Rattle.mg_works.specs.Works.{Working, with_work, without_work, work_of, written_in}
 use Rattle.mg_works.specs.WorksLaws.{with_its, with_none, with_others, without_its, without_others}
 use Rattle.mg_engine_meaning.specs.Formers.{MayReturnTo}
-use Rattle.mg_engine_meaning.specs.Standings.{AreOfKept, AreTold, KeepsWritten, SeesAlike, Tables, undo_kept, written_kept}
+use Rattle.mg_engine_meaning.specs.Standings.{AreOfKept, AreTold, KeepsWritten, SeesIt, Tables, undo_kept, written_kept}
 
--- ---- tables that are alike
+-- ---- tables that are one
 
--- the table that is seen so
-pub alike_some : (its : Option Table) (table : Table) → SeesAlike its table
-    → (x : Table) × (its ≡ Some x) × IsSameTable x table
-alike_some None table alike = absurd alike
-alike_some (Some x) table alike = (x, refl, alike)
-
--- tables of one name that stand on the same pages are alike
-pub alike_there : (size : ℕ) (state : ℕ → TxState) (pages : Pages) (layout : Layout) (r : Reading)
+-- tables of one name that stand on the same pages are one
+pub one_there : (size : ℕ) (state : ℕ → TxState) (pages : Pages) (layout : Layout) (r : Reading)
     → IsSoundBy packed_form size state pages layout r → (x y : Table)
     → IsOneOf (map (λ stand. stand.table) layout.tables) x → IsOneOf (map (λ stand. stand.table) layout.tables) y
-    → x.name ≡ y.name → IsSameTable x y
-alike_there size state pages layout r sound x y first second name = record {
-  name = name;
-  shape = sym one.same.shape ∙ (ap (λ (z : Table). z.shape) same ∙ other.same.shape);
-  pointer = sym one.same.pointer ∙ (ap (λ (z : Table). z.pointer) same ∙ other.same.pointer);
-}
-  where
-    one : IsShown layout x
-    one = seen_is_shown layout x first
-
-    other : IsShown layout y
-    other = seen_is_shown layout y second
-
-    same : one.its ≡ other.its
-    same = one_table packed_form size state pages layout r sound one.its other.its one.stands other.stands
-        (one.same.name ∙ (name ∙ sym other.same.name))
+    → x.name ≡ y.name → x ≡ y
+one_there size state pages layout r sound x y first second name = one_table packed_form size state pages layout r sound
+    x y (stands_in layout x (inr first)) (stands_in layout y (inr second)) name
 
 -- ---- one work becomes another
 
--- What is kept for taking back stays, and what was seen alike is.
+-- What is kept for taking back stays, and what was seen of it is.
 pub record StaysKept (old new : Option Working) (was is : List ℕ → Option Table) : Type 0 where
   pub written : written_kept new ≡ written_kept old
   pub changes : (undo_kept new).changes ≡ (undo_kept old).changes
-  pub seen : (table : Table) → SeesAlike (was table.name) table → SeesAlike (is table.name) table
+  pub seen : (table : Table) → SeesIt (was table.name) table → SeesIt (is table.name) table
 
 -- Nothing is kept.
 pub record IsBare (work : Option Working) : Type 0 where
@@ -76,7 +55,7 @@ module _ (catalog : ℕ) (old new : List Working) (tables now : Tables) (kept : 
     where
       seen_by : (u : ℕ) (table : Table) → IsOneOf (written_kept (work_of new u)) table
           → IsBare (work_of new u) ⊎ StaysKept (work_of old u) (work_of new u) (tables u) (now u)
-          → SeesAlike (now u table.name) table
+          → SeesIt (now u table.name) table
       seen_by u table is (inl bare) = absurd (subst (λ (xs : List Table). IsOneOf xs table) bare.written is)
       seen_by u table is (inr stays) = stays.seen table
           (kept.seen u table (subst (λ (xs : List Table). IsOneOf xs table) stays.written is))
@@ -101,7 +80,7 @@ module _ (t : ℕ) (made : Working → Working) (number : (w : Working) → (mad
     (changes : (w : Working) → (made w).undo.changes ≡ w.undo.changes) (works : List Working) where
   -- a work becomes one that keeps the same
   pub made_kept : (u : ℕ) (was is : List ℕ → Option Table)
-      → ((table : Table) → SeesAlike (was table.name) table → SeesAlike (is table.name) table)
+      → ((table : Table) → SeesIt (was table.name) table → SeesIt (is table.name) table)
       → StaysKept (work_of works u) (work_of (with_work t made works) u) was is
   made_kept u was is seen = at (cases_eq u t) (work_of works t) refl
     where

@@ -51,14 +51,13 @@ use Rattle.mg_core.specs.declared.parts.Core.{Core}
 use Rattle.mg_core.specs.Cores.{Continues, IsCore}
 use Rattle.mg_core.specs.Events.{IsRefused, Looks as CoreLooks, keeps_base, keeps_base_of, with_base, with_base_if}
 use Rattle.mg_engine_meaning.specs.EventLaws.{refused_gives}
-use Rattle.mg_engine_meaning.specs.Falling.{same_through}
 use Rattle.mg_engine_meaning.specs.FrameLaws.{apart_from, commits_of, kept_with, others_given, same_asked, same_sessions, sessions_of, tables_of, works_same, works_with}
 use Rattle.mg_engine_meaning.specs.Frames.{GivesEvent, WorksStay}
-use Rattle.mg_engine_meaning.specs.KeptLaws.{alike_some, alike_there, kept_each, made_kept}
+use Rattle.mg_engine_meaning.specs.KeptLaws.{kept_each, made_kept, one_there}
 use Rattle.mg_engine_meaning.specs.LawfulLaws.{legal_of, memory_of, opening_of}
 use Rattle.mg_engine_meaning.specs.Meaning.{Places, means}
 use Rattle.mg_engine_meaning.specs.MemoryCallLaws.{active_answer, idle_finds, memory_keeps, memory_quiet, memory_stands, memory_walks}
-use Rattle.mg_engine_meaning.specs.Standings.{AreSeen, KeepsWritten, Numbers, SeesAlike, ShowsIt, StandsFor, StandsWhile, Tables, asked_in, asked_kept, mode_kept, session_kept, sessions_in, standing_of, undo_kept}
+use Rattle.mg_engine_meaning.specs.Standings.{AreSeen, KeepsWritten, Numbers, SeesIt, ShowsIt, StandsFor, StandsWhile, Tables, asked_in, asked_kept, mode_kept, session_kept, sessions_in, standing_of, undo_kept}
 use Rattle.mg_engine_meaning.specs.BasesLaws.{bases_after}
 use Rattle.mg_engine_meaning.specs.LawfulBases.{BasesAreLawful}
 
@@ -287,29 +286,27 @@ module _ {D P : Type 0} (m : Meaning D) (places : Places P) (idle_goes : IdleGoe
           without_tables (λ w. refl) (λ w. refl) (λ w. refl) (λ w. refl) old.works u (stands.tables u)
           (tables_now stands.tables (tables_for o h stands shows).table u) (alike u)))
         where
-          its_seen : (table : Table) → SeesAlike (stands.tables tx.0 table.name) table
-              → SeesAlike ((tables_for o h stands shows).table table.name) table
+          its_seen : (table : Table) → SeesIt (stands.tables tx.0 table.name) table
+              → SeesIt ((tables_for o h stands shows).table table.name) table
           its_seen table was =
-              let (x, is, same) = alike_some (stands.tables tx.0 table.name) table was in
               let (y, there) = sees_still within o h tx (begin o shows.stands.opening) shows.stands.legal
-              stands.grows (sym (ap (λ (b : Mode). b.snapshot) (mode_told o h stands)) ∙ renews) table.name x
-              (subst (IsSeenAs table.name (shape_seen o h tx.0 table.name)) is
+              stands.grows (sym (ap (λ (b : Mode). b.snapshot) (mode_told o h stands)) ∙ renews) table.name table
+              (subst (IsSeenAs table.name (shape_seen o h tx.0 table.name)) was
               ((one_of o h stands).table table.name)) ((tables_for o h stands shows).table table.name)
               ((tables_for o h stands shows).seen_as table.name) in
-              subst (λ (z : Option Table). SeesAlike z table) (sym there.0) (same_through y x table
-              (alike_there old.store.geometry.size (left_state everyone (said old.list))
+              there.0 ∙ ap Some (one_there old.store.geometry.size (left_state everyone (said old.list))
               (shown old.store.dirty shows.image) shows.stands.shows.layout shows.stands.shows.reading
-              shows.stands.shows.sound y x ((tables_for o h stands shows).stands table.name y there.0)
-              ((shows.stands.shows.tables tx.0 continues.1).seen table.name x is) (there.1 ∙ sym same.name)) same)
+              shows.stands.shows.sound y table ((tables_for o h stands shows).stands table.name y there.0)
+              ((shows.stands.shows.tables tx.0 continues.1).seen table.name table was) there.1)
 
-          alike : (u : ℕ) (table : Table) → SeesAlike (stands.tables u table.name) table
-              → SeesAlike (tables_now stands.tables (tables_for o h stands shows).table u table.name) table
+          alike : (u : ℕ) (table : Table) → SeesIt (stands.tables u table.name) table
+              → SeesIt (tables_now stands.tables (tables_for o h stands shows).table u table.name) table
           alike u table was = at (tx.0 == u) refl
             where
-              at : (b : Bool) → (tx.0 == u) ≡ b → SeesAlike
+              at : (b : Bool) → (tx.0 == u) ≡ b → SeesIt
                   (if b then (tables_for o h stands shows).table table.name else stands.tables u table.name) table
               at false not_ = was
-              at true is = its_seen table (subst (λ (n : ℕ). SeesAlike (stands.tables n table.name) table)
+              at true is = its_seen table (subst (λ (n : ℕ). SeesIt (stands.tables n table.name) table)
                   (sym (eqb-true tx.0 u is)) was)
 
       renew_follows : FollowsEntry o h (entry (Look tx) Fine) (standing_of old stands.numbers stands.tables)

@@ -1,11 +1,10 @@
 -- What an engine has in memory as a standing, and which history an engine stands for.
-use Rattle.std.specs.Prelude.{◌≡◌, ◌⊎◌, ◌<◌, ℕ, Bool, true, false, List, [], ◌∷◌, Option, None, Some, is_some}
+use Rattle.std.specs.Prelude.{◌≡◌, ◌⊎◌, ◌<◌, ℕ, Bool, true, false, List, [], ◌∷◌, Option, None, Some}
 use Rattle.mg_base.specs.Disk.{Meaning}
 use Rattle.mg_base.specs.Image.{Image}
 use Rattle.mg_directory.specs.Candidates.{by_table}
 use Rattle.mg_grown_catalogs.specs.Grown.{CatalogGrows}
 use Rattle.mg_header.specs.declared.header.TheConstants.{GREATEST_NEXT}
-use Rattle.mg_image.specs.Catalog.{IsSameTable}
 use Rattle.mg_image.specs.Form.{Pages, packed_form}
 use Rattle.mg_image.specs.Inventory.{header_of, next_of}
 use Rattle.mg_image_overlays.specs.TableOwners.{IsOneOf}
@@ -91,10 +90,9 @@ abbrev pub written_kept : Option Working → List Table
 written_kept None = []
 written_kept (Some work) = work.written
 
--- a table that is seen is another one, but for its indexes
-abbrev pub SeesAlike : Option Table → Table → Type 0
-SeesAlike None table = ⊥
-SeesAlike (Some its) table = IsSameTable its table
+-- the table that is seen is this one, with all its indexes
+abbrev pub SeesIt : Option Table → Table → Type 0
+SeesIt its table = its ≡ Some table
 
 -- each of these changes is one of the catalog, which begins at a page, or of a table that is kept, to which what was may
 -- come back
@@ -111,7 +109,7 @@ AreTold catalog work = AreOfKept catalog (written_kept work) (undo_kept work).ch
 -- each change that a transaction has to take back is of one of these, to which what was may come back, or of the catalog.
 pub record KeepsWritten (catalog : ℕ) (works : List Working) (tables : Tables) : Type 0 where
   pub seen : (t : ℕ) (table : Table) → IsOneOf (written_kept (work_of works t)) table
-      → SeesAlike (tables t table.name) table
+      → SeesIt (tables t table.name) table
   pub told : (t : ℕ) → AreTold catalog (work_of works t)
 
 -- ---- pages

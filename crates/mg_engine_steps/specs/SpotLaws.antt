@@ -84,6 +84,11 @@ module _ (form : Form) (size : ℕ) (o : Opening) (h : Entries) (s : Standing) (
       at p table (inl was) = shows.versions.others p table was
       at p table (inr none) = inl (ap (told_versions g.state table) (none p refl))
 
+  -- who speaks for a key is who did
+  pub speaker_on : versions_on.speaker ≡ shows.versions.speaker
+  unfolding versions_on
+  speaker_on = refl
+
 module _ (D L : Type 0) (m : Meaning D) (form : Form) (one : RowsAreOne form.coding)
     (none : HasNoSequences form) (begins : OpeningsBegin) (last : RowsLastStill D L m form) (o : Opening)
     (h : Entries) (s : Standing) (before after : Pool D L) (i j : Image) (batch : Changed)

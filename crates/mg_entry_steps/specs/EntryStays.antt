@@ -1,5 +1,5 @@
 -- An entry is laid in an index, and an engine stands for the history for which it stood.
-use Rattle.std.specs.Prelude.{◌≡◌, ℕ, Option, Some}
+use Rattle.std.specs.Prelude.{◌≡◌, ℕ, Some}
 use Rattle.mg_base.specs.Disk.{Meaning}
 use Rattle.mg_base.specs.Image.{Image}
 use Rattle.mg_engine_steps.specs.Knowing.{WasChanged}

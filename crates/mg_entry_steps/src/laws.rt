@@ -1,9 +1,11 @@
-//! An entry is laid by an engine. The function does nothing: its contract is the law.
+//! An entry is laid by an engine. Each function does nothing: its contract is the law.
 
 ghost use Rattle.mg_image.specs.Form.{packed_form};
+ghost use Rattle.mg_entry_steps.specs.EntryMidway.{EntriesStayMidway};
 ghost use Rattle.mg_entry_steps.specs.EntryStays.{EntriesStay};
 
 use mg_base::Disk;
+use mg_careful::Links;
 use mg_engine_steps::batches_last;
 use mg_entry_overlays::entry_batches_keep;
 use mg_entry_ties::insertions_lay;
@@ -19,4 +21,13 @@ pub fn entries_stay<D: Disk>()
     insertions_lay();
     histories_go_on();
     batches_last::<D, FireLinks>();
+}
+
+/// So it is while a transaction takes its changes back: the same changes are still to be taken back.
+pub fn entries_stay_midway<D: Disk, L: Links>()
+    ensures { EntriesStayMidway packed_form D L D.meaning }
+{
+    entry_batches_keep();
+    insertions_lay();
+    batches_last::<D, L>();
 }

@@ -1,5 +1,6 @@
 -- The laws: an insertion into an index is a batch of entries, and takes few pages. The other files prove them.
-use Rattle.std.specs.Prelude.{◌≡◌, ◌+◌, ℕ, Bool, List, length}
+use Rattle.std.specs.Prelude.{◌≡◌, ◌+◌, ℕ, Bool, List, [], Some, length}
+use Rattle.mg_base.specs.declared.damage.Damaged.{Damaged}
 use Rattle.mg_base.specs.declared.geometry.Geometry.{Geometry}
 use Rattle.mg_base.specs.declared.transaction.TxState.{TxState}
 use Rattle.mg_model.specs.declared.table.Table.{Table}
@@ -8,15 +9,18 @@ use Rattle.mg_node.specs.NodePage.{level_in}
 use Rattle.mg_model.specs.History.{Entries}
 use Rattle.mg_model.specs.declared.opening.Opening.{Opening}
 use Rattle.mg_overlays.specs.Overlays.{KeepsLaidAlways, left_state}
-use Rattle.mg_pool.specs.Batch.{Changed, content_in, lists}
+use Rattle.mg_pool.specs.Batch.{Changed, IsLawful, content_in, lists}
 use Rattle.mg_image.specs.Form.{Form, Pages}
 use Rattle.mg_image.specs.Indexes.{IsTree}
 use Rattle.mg_image.specs.Sound.{HasInventory}
 use Rattle.mg_image_overlays.specs.KeptImages.{keeping}
 use Rattle.mg_image_overlays.specs.Whose.{IsTableFor}
-use Rattle.mg_space.specs.Taking.{IsGeometry}
-use Rattle.mg_btree.specs.Inserting.{PutsAndTakes}
-use Rattle.mg_free_pages.specs.FreePages.{TakesAtMost}
+use Rattle.mg_space.specs.FreePages.{HasRegions}
+use Rattle.mg_space.specs.Taking.{IsGeometry, RefusesTake}
+use Rattle.mg_space.specs.declared.fault.SpaceFault.{SpaceFault}
+use Rattle.mg_space.specs.declared.fault.SpaceFault.TheVariants as faults
+use Rattle.mg_btree.specs.Inserting.{PutsAndTakes, RefusesInsert}
+use Rattle.mg_free_pages.specs.FreePages.{IsNotFull, TakesAtMost}
 use Rattle.mg_index_overlays.specs.IndexBatches.{PutsChanges}
 use Rattle.mg_entry_overlays.specs.EntryBatches.{LaysEntries}
 use Rattle.mg_entry_ties.specs.IndexPlaces.{HasRoot, IsIndexFor}
@@ -59,3 +63,30 @@ abbrev pub InsertionsTakeEighteen : Type 0
 InsertionsTakeEighteen = (g : Geometry) (old new : Pages) (earlier batch : Changed) (owner root : ℕ)
     (levels : List (List ℕ)) (e : Entry) → IsGeometry g → IsTree g.size old owner root levels
     → PutsAndTakes g old new earlier batch owner root levels e → TakesAtMost g old new 18
+
+-- ---- nothing but want of pages or of memory keeps an entry from an index
+
+-- a batch that has nothing
+abbrev pub no_batch : Changed
+no_batch = record { pages = []; orders = [] }
+
+-- the batch of an insertion is lawful: it is small enough, since no tree is high, and its orders lead up the tree
+abbrev pub InsertionsAreLawful : Type 0
+InsertionsAreLawful = (g : Geometry) (old new : Pages) (batch : Changed) (owner root : ℕ) (levels : List (List ℕ))
+    (e : Entry) → IsGeometry g → IsTree g.size old owner root levels
+    → PutsAndTakes g old new no_batch batch owner root levels e
+    → ((n : ℕ) (bytes : List ℕ) → content_in batch.pages n ≡ Some bytes → new n ≡ bytes)
+    → ((m : ℕ) → length (old m) ≡ g.size) → IsLawful g.size batch.pages batch.orders
+
+-- an insertion is refused for want of pages nowhere, where eighteen are free
+abbrev pub InsertionsAreThere : Type 0
+InsertionsAreThere = (g : Geometry) (old : Pages) (owner root : ℕ) (levels : List (List ℕ)) (e : Entry)
+    (fault : SpaceFault) → IsTree g.size old owner root levels → IsGeometry g
+    → RefusesInsert g old root levels e fault → IsNotFull g old 18 fault
+
+-- and it meets no damage where the page inventory has none, since no root stands on the highest level that there is
+abbrev pub InsertionsMeetNone : Type 0
+InsertionsMeetNone = (g : Geometry) (old : Pages) (owner root : ℕ) (levels : List (List ℕ)) (e : Entry) (it : Damaged)
+    → IsTree g.size old owner root levels → IsGeometry g → HasRegions g old
+    → ((mid : Pages) → HasRegions g mid → RefusesTake g mid (faults.Damaged it) → ⊥)
+    → RefusesInsert g old root levels e (faults.Damaged it) → ⊥

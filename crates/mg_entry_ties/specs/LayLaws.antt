@@ -2,11 +2,16 @@
 use Rattle.std.proofs.Common.{◌≡◌, ◌⊎◌, inl, inr, refl, ◌∙◌, ap, sym, subst, arith, ℕ, Bool, false, List, [], ◌∷◌, ◌++◌, Option}
 use Rattle.std.specs.List.{flat_map}
 use Rattle.mg_base.specs.Fields.{byte}
+use Rattle.mg_base.specs.declared.geometry.Geometry.{Geometry}
+use Rattle.mg_btree.specs.Inserting.{PutsAndTakes}
+use Rattle.mg_image.specs.Indexes.{IsTree}
+use Rattle.mg_node.specs.declared.entry.Entry.{Entry}
+use Rattle.mg_space.specs.Taking.{IsGeometry}
 use Rattle.mg_careful.specs.Precedence.{Orders}
 use Rattle.mg_model.specs.declared.table.Table.{Table}
 use Rattle.mg_pip.specs.PipPage.{pip_checks}
 use Rattle.mg_pointer.specs.PointerPage.{next_in}
-use Rattle.mg_pool.specs.Batch.{content_in, lists}
+use Rattle.mg_pool.specs.Batch.{Changed, content_in, lists}
 use Rattle.mg_image.specs.Form.{Form, Pages}
 use Rattle.mg_image.specs.Inventory.{inventory_page, is_used}
 use Rattle.mg_image.specs.Reached.{tips_of}
@@ -77,6 +82,16 @@ no_region size pages n inventory is (region, same, below) = at (inventory region
 
 -- ---- so
 
+-- what an insertion leaves of the pages
+pub insertion_leaves : (g : Geometry) (old new : Pages) (earlier batch : Changed) (owner root : ℕ)
+    (levels : List (List ℕ)) (e : Entry) → IsGeometry g → IsTree g.size old owner root levels
+    → (is : PutsAndTakes g old new earlier batch owner root levels e) → LeavesPages g.size is.puts.ends old new
+insertion_leaves g old new earlier batch owner root levels e lawful tree is = across_row g is.puts.ends
+    (LeavesPages g.size is.puts.ends) (leaves_all g lawful is.puts.ends) (leaves_both g lawful is.puts.ends)
+    (change_leaves g lawful is.puts.ends) (taking_leaves g lawful is.puts.ends) owner root (content_in batch.pages)
+    (lists batch.orders) (Add e) (is.puts.wider root (root_in g.size old owner root levels tree.rooted tree)) old new
+    levels is.puts.ends is.puts.row [] is.takes is.puts.wider (λ n none. absurd none)
+
 pub insertions_lay : (form : Form) → InsertionsLay form
 insertions_lay form g state old new earlier batch owner root levels e lawful tree is put whole inventory index = record {
   only = λ n. at n (leaves.only n);
@@ -87,11 +102,7 @@ insertions_lay form g state old new earlier batch owner root levels e lawful tre
 }
   where
     leaves : LeavesPages g.size is.puts.ends old new
-    leaves = across_row g is.puts.ends (LeavesPages g.size is.puts.ends) (leaves_all g lawful is.puts.ends)
-        (leaves_both g lawful is.puts.ends) (change_leaves g lawful is.puts.ends) (taking_leaves g lawful is.puts.ends)
-        owner root (content_in batch.pages) (lists batch.orders) (Add e)
-        (is.puts.wider root (root_in g.size old owner root levels tree.rooted tree)) old new levels is.puts.ends
-        is.puts.row [] is.takes is.puts.wider (λ n none. absurd none)
+    leaves = insertion_leaves g old new earlier batch owner root levels e lawful tree is
 
     at : (n : ℕ) → (new n ≡ old n) ⊎ (InTree is.puts.ends n ⊎ IsRegionPage g.size n)
         → (new n ≡ old n) ⊎ IsEntryPlace g.size old n

@@ -1,7 +1,8 @@
+pub mod FewLaws
 pub mod IndexPlaces
 pub mod Laws
-pub mod RowLaws
-pub mod PageLaws
-pub mod StandLaws
 pub mod LayLaws
-pub mod FewLaws
+pub mod MeetLaws
+pub mod PageLaws
+pub mod RowLaws
+pub mod StandLaws

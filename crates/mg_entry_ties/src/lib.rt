@@ -5,7 +5,8 @@
 //! inventory alone (`LeavesPages`). So in a layout that has the index that tree changes by its row of steps, and each
 //! other one stays; one that doesn't have the table, since whoever has made it counts as dead, has none of these pages
 //! (`IsIndexFor`), and all of its trees stay. The pages that it takes are those that the tree has more (`TakesThese`):
-//! one for each level at most, and two for the root, so eighteen at most.
+//! one for each level at most, and two for the root, so eighteen at most. Nor is it refused for anything but want of pages
+//! or of memory (`InsertionsMeetNone`), and its batch is lawful (`InsertionsAreLawful`), since no tree is high.
 //!
 //! Definitions: `specs/IndexPlaces`; laws: `Laws`; the other files prove them. There is no program here: each function
 //! does nothing, and its contract is a law.
@@ -18,4 +19,4 @@
 
 mod laws;
 
-pub use laws::{insertions_lay, insertions_take_few};
+pub use laws::{insertions_lay, insertions_meet_none, insertions_take_few};

@@ -37,17 +37,17 @@ pub record BatchLaws {D : Type 0} (m : Meaning D) : Type 0 where
 module _ {D : Type 0} (m : Meaning D) (holds : ToldAreHeld m) (laws : BatchLaws m) where
   -- ---- one batch
 
-  place_spends : (before after : Pool D FireLinks) (owner : ℕ) (at : RecId) → TakesPlace m before after owner at
+  pub place_spends : (before after : Pool D FireLinks) (owner : ℕ) (at : RecId) → TakesPlace m before after owner at
       → SpendsAtMost m before after 2
   place_spends before after owner at own = own_spends m before after _ 2
       (λ image batch gives. laws.spot_takes before image nothing_yet batch owner at gives) own
 
-  first_spends : (before after : Pool D FireLinks) (owner : ℕ) (at : RecId) (v : Version)
+  pub first_spends : (before after : Pool D FireLinks) (owner : ℕ) (at : RecId) (v : Version)
       → MakesFirst m before after owner at v → SpendsAtMost m before after 2
   first_spends before after owner at v own = own_spends m before after _ 2
       (λ image batch makes. laws.making_takes before image nothing_yet batch owner at v makes) own
 
-  over_spends : (before after : Pool D FireLinks) (rec : RecId) (v : Version) → PushesOver m before after rec v
+  pub over_spends : (before after : Pool D FireLinks) (rec : RecId) (v : Version) → PushesOver m before after rec v
       → SpendsAtMost m before after 2
   over_spends before after rec v own = own_spends m before after _ 2
       (λ image batch pushes. laws.push_takes before image nothing_yet batch rec v pushes) own
@@ -96,7 +96,7 @@ module _ {D : Type 0} (m : Meaning D) (holds : ToldAreHeld m) (laws : BatchLaws 
       (failing_spends m holds before after _ _ fault fails)
 
   -- for want of more pages is no less refused than for want of fewer
-  more_short : (before : Pool D FireLinks) (few many : ℕ) (fault : SpaceFault) → few ≤ many
+  pub more_short : (before : Pool D FireLinks) (few many : ℕ) (fault : SpaceFault) → few ≤ many
       → IsNotShort m before few fault → IsNotShort m before many fault
   more_short before few many fault less short lawful i tells regions has =
       short lawful i tells regions (fewer before.geometry (shown before.dirty i) many few less has)

@@ -66,11 +66,12 @@ module _ {D : Type 0} (m : Meaning D) where
           (two.takes (subst IsGeometry (sym one.geometry) lawful) now.0 j
           (record { told = one.tells tells.told; held = now.1 }) held))
 
-  -- a batch of its own was filled and changed
-  pub own_spends : (before after : Pool D FireLinks) (fills : Image → Changed → Type 0) (most : ℕ)
-      → ((image : Image) (batch : Changed) → fills image batch → StepTakes D before image nothing_yet batch most)
+  -- a batch of its own was filled and changed, over whatever image the disk tells
+  pub told_spends : (before after : Pool D FireLinks) (fills : Image → Changed → Type 0) (most : ℕ)
+      → ((image : Image) (batch : Changed) → Tells m before.disk image → fills image batch
+      → StepTakes D before image nothing_yet batch most)
       → ChangesOwn m before after fills → SpendsAtMost m before after most
-  own_spends before after fills most step own = record {
+  told_spends before after fills most step own = record {
     tells = λ told. ap m.tells (own.changed.changes.enters.disk ∙ own.changed.changes.puts.disk)
         ∙ (own.changed.changes.written.tells ∙ (own.keeps.disk.tells ∙ told));
     geometry = own.changed.geometry ∙ own.keeps.geometry;
@@ -81,11 +82,18 @@ module _ {D : Type 0} (m : Meaning D) where
           → TakesAtMost before.geometry (shown before.dirty i) (shown after.dirty j) most
       on lawful i j tells held = subst (λ (pages : Pages).
           TakesAtMost before.geometry (shown before.dirty i) pages most) (sym is.pool)
-          (step i own.batch (own.filled i tells) lawful)
+          (step i own.batch tells (own.filled i tells) lawful)
         where
           is : BatchIsChanged before after i j own.batch (λ t. false) (λ t. 0)
           is = changed_batches_are D FireLinks m before own.ready after i j own.batch (λ t. false) (λ t. 0) own.keeps
               own.changed.frame tells held
+
+  -- over any image
+  pub own_spends : (before after : Pool D FireLinks) (fills : Image → Changed → Type 0) (most : ℕ)
+      → ((image : Image) (batch : Changed) → fills image batch → StepTakes D before image nothing_yet batch most)
+      → ChangesOwn m before after fills → SpendsAtMost m before after most
+  own_spends before after fills most step own =
+      told_spends before after fills most (λ image batch tells filled. step image batch filled) own
 
   -- ---- refusals
 
@@ -136,17 +144,26 @@ module _ {D : Type 0} (m : Meaning D) where
       both_spend holds before ready after 0 0 (read_spends before ready keeps)
       (refused_spends ready after batch fault fails)
 
-  -- and is refused for want of pages only where it is not filled
-  pub failing_short : (before after : Pool D FireLinks) (fills : Image → Changed → Type 0)
+  -- and is refused for want of pages only where it is not filled, over whatever image the disk tells
+  pub told_short : (before after : Pool D FireLinks) (fills : Image → Changed → Type 0)
       (refuses : Image → SpaceFault → Type 0) (most : ℕ) (fault : SpaceFault)
-      → ((image : Image) → refuses image fault → StepIsNotFull m before image nothing_yet most fault)
+      → ((image : Image) → Tells m before.disk image → refuses image fault
+      → StepIsNotFull m before image nothing_yet most fault)
       → FailsOwn m before after fills refuses fault → IsNotShort m before most fault
-  failing_short before after fills refuses most fault step (not_filled keeps own told why) lawful i tells =
-      step i (why i tells) lawful
-  failing_short before after fills refuses most fault step (not_changed batch ready keeps online filled fails) lawful i
+  told_short before after fills refuses most fault step (not_filled keeps own told why) lawful i tells =
+      step i tells (why i tells) lawful
+  told_short before after fills refuses most fault step (not_changed batch ready keeps online filled fails) lawful i
       tells = λ regions has limit full. never fault fails limit full
     where
       never : (fault : SpaceFault) → FailsBatch m ready after batch fault → (limit : ℕ) → fault ≡ faults.Full limit → ⊥
       never (faults.Full most) fails limit is = fails
       never (faults.Damaged it) fails limit is = absurd cc
       never (faults.Pool it) fails limit is = absurd cc
+
+  -- over any image
+  pub failing_short : (before after : Pool D FireLinks) (fills : Image → Changed → Type 0)
+      (refuses : Image → SpaceFault → Type 0) (most : ℕ) (fault : SpaceFault)
+      → ((image : Image) → refuses image fault → StepIsNotFull m before image nothing_yet most fault)
+      → FailsOwn m before after fills refuses fault → IsNotShort m before most fault
+  failing_short before after fills refuses most fault step fails =
+      told_short before after fills refuses most fault (λ image tells why. step image why) fails

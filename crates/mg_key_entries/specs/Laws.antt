@@ -9,7 +9,8 @@ use Rattle.mg_image.specs.Indexes.{Finds, IsFoundIn}
 use Rattle.mg_image.specs.RecordRules.{Facts, table_in}
 use Rattle.mg_image.specs.Records.{Reading, record_key}
 use Rattle.mg_image.specs.Sound.{IsSoundBy, facts_by}
-use Rattle.mg_image.specs.Tables.{Layout}
+use Rattle.mg_entry_overlays.specs.Entered.{ShowsEntries}
+use Rattle.mg_image.specs.Tables.{Layout, stands_of, table_at}
 use Rattle.mg_image.specs.declared.entry.Entry.{Entry}
 use Rattle.mg_model.specs.declared.table.Table.{Table}
 use Rattle.mg_snap.specs.Live.{State}
@@ -19,6 +20,7 @@ use Rattle.mg_seek.specs.Readings.{IsReadAt}
 use Rattle.mg_seek.specs.Speaking.{IsSpeaker, Speaks, is_erased_for_all}
 use Rattle.mg_seek.specs.TableRecords.{AreTableRecords}
 use Rattle.mg_seek.specs.Versions.{wants}
+use Rattle.mg_key_entries.specs.KeptEntries.{HasFound}
 use Rattle.mg_key_entries.specs.KeyEntries.{AreCandidates, Ends, FoundAmong, IsKeyFound, SpeakersHaveEntries, entry_of_key}
 
 -- Where each record of a table that speaks for a key has the key's entry in an index, who looks through the records that
@@ -58,3 +60,10 @@ LivingRowsAreFound form = (size : ℕ) (state counted : ℕ → TxState) (live :
     → (p : RecId) (table : Table) → table_in (facts_by counted pages layout) p ≡ Some table
     → (newest : Entry) → first_entry (wants state live Living) (r p) ≡ Some newest
     → newest.version.deleted ≡ false → IsFoundIn pages table.indexes p newest.row
+
+-- what a keeper has of its indexes it has still over an image that is there after a batch of entries
+abbrev pub EntriesKeepFound : Form → Type 0
+EntriesKeepFound form = (size : ℕ) (state : ℕ → TxState) (pool changed : Pages) (a : Layout) (r : Reading)
+    (entries : ShowsEntries form size state pool changed a r) (now : ℕ → TxState) (live : State)
+    → HasFound now live (table_at (stands_of a)) pool r
+    → HasFound now live (table_at (stands_of entries.layout)) changed r

@@ -1,7 +1,7 @@
 //! The laws of the entries of keys. Each function does nothing: its contract is the law.
 
 ghost use Rattle.mg_image.specs.Form.{packed_form};
-ghost use Rattle.mg_key_entries.specs.Laws.{EntriesTellSpeakers, KeysStayFound, LivingRowsAreFound};
+ghost use Rattle.mg_key_entries.specs.Laws.{EntriesKeepFound, EntriesTellSpeakers, KeysStayFound, LivingRowsAreFound};
 ghost use Rattle.mg_key_entries.specs.Laws.{PushedKeysStayFound, SpeakersAreFound};
 ghost use Rattle.mg_seek.specs.Readings.{SpeakersOfReadings};
 
@@ -20,4 +20,10 @@ pub fn keys_stay_found()
 /// In a sound image the row of a record's newest version that is no dead transaction's is found.
 pub fn living_rows_are_found()
     ensures { LivingRowsAreFound packed_form }
+{}
+
+/// What is found in the indexes stays found as entries are laid: each row that an active transaction sees, and the key of
+/// each record whose newest version that is no dead transaction's is a deletion.
+pub fn entries_keep_what_is_found()
+    ensures { EntriesKeepFound packed_form }
 {}

@@ -9,14 +9,20 @@
 //! engine has to keep it of deletions alone; that lasts while transactions end (`KeysStayFound`), and where a version
 //! of the same key is laid over others (`PushedKeysStayFound`).
 //!
-//! Definitions: `specs/KeyEntries`; laws: `Laws`; the other files prove them. There is no program here: each function
+//! What an engine has to keep beyond soundness is `HasFound`: that, and that each row which an active transaction sees is
+//! found. It stays as entries are laid (`EntriesKeepFound`).
+//!
+//! Definitions: `specs/KeyEntries`, `specs/KeptEntries`; laws: `Laws`; the other files prove them. There is no program here: each function
 //! does nothing, and its contract is a law.
 //!
 //! Invariant: none, it keeps no state.
-//! Below: `mg_seek`, who speaks for a key; `mg_image`, what an index finds. Above: the engine, once it seeks by indexes.
+//! Below: `mg_seek`, who speaks for a key; `mg_image`, what an index finds; `mg_entry_overlays`, an image after a batch of
+//! entries. Above: the engine, once it seeks by indexes.
 //! Not here: how the entries of a key are read (`mg_btree`), and what keeps them while records are written.
 #![tactic(auto)]
 
 mod laws;
 
-pub use laws::{entries_tell_the_speaker, keys_stay_found, living_rows_are_found};
+pub use laws::{
+    entries_keep_what_is_found, entries_tell_the_speaker, keys_stay_found, living_rows_are_found,
+};

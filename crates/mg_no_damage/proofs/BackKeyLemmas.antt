@@ -1,6 +1,6 @@
 -- A key is taken back without damage: the record that spoke for it at first is found, and its newest version is the
 -- transaction's own.
-use Rattle.std.proofs.Common.{◌≡◌, ◌≢◌, ◌≤◌, ◌/◌, ◌⊎◌, zero, suc, ap, refl, sym, subst, ◌∙◌, ℕ, Bool, true, false, List, [], ◌∷◌, Option, None, Some}
+use Rattle.std.proofs.Common.{◌≡◌, ◌≢◌, ◌⊎◌, ◌+◌, ◌++◌, ◌≤◌, length, zero, suc, inl, inr, ap, refl, sym, subst, ◌∙◌, ℕ, Bool, true, false, List, [], ◌∷◌, Option, None, Some}
 use Rattle.std.proofs.Math.Path.{fun_ext}
 use Rattle.std.proofs.lemmas.Bool.{eqb-true, false≢true, ne_eqb}
 use Rattle.std.specs.Prelude.{if◌then◌else◌, map, slice_get}
@@ -22,7 +22,6 @@ use Rattle.mg_engine_changes.specs.TakingSteps.{StandsMidway}
 use Rattle.mg_engine_changes.specs.Written.{KeptTablesAreNamed, KeptTablesStand}
 use Rattle.mg_engine_changes.specs.WrittenLaws.{one_in}
 use Rattle.mg_engine_meaning.specs.Formers.{IsOfKind, MayReturn}
-use Rattle.mg_engine_meaning.specs.KeptLaws.{alike_some}
 use Rattle.mg_engine_meaning.specs.Standings.{KeepsWritten, written_kept}
 use Rattle.mg_engine_steps.specs.BasedLaws.{tests_all}
 use Rattle.mg_engine_steps.specs.Known.{IsShown}
@@ -33,7 +32,7 @@ use Rattle.mg_engine_steps.specs.Versions.{SpeaksFor, told_version}
 use Rattle.mg_engine_steps.specs.OwnChains.{own_told}
 use Rattle.mg_generations.specs.Generations.{is_newest_by}
 use Rattle.mg_generations.specs.Kept.{IsErasedForAll, StandFor}
-use Rattle.mg_image.specs.Form.{Pages, packed_form}
+use Rattle.mg_image.specs.Form.{Pages, Row, packed_form}
 use Rattle.mg_image.specs.Histories.{newest_at, row_change}
 use Rattle.mg_image.specs.RecordRules.{Each, EachBack, Facts, table_in}
 use Rattle.mg_image.specs.Records.{Chain, Reading, cells_of, record_key, writer}
@@ -49,7 +48,7 @@ use Rattle.mg_model.specs.declared.change.Change.{Change}
 use Rattle.mg_model.specs.declared.opening.Opening.{Opening}
 use Rattle.mg_model.specs.declared.table.Table.{Table}
 use Rattle.mg_image_overlays.specs.TableOwners.{IsOneOf}
-use Rattle.mg_no_damage.proofs.FitLemmas.{rows_fit, stored_short}
+use Rattle.mg_no_damage.proofs.FitLemmas.{keys_fit, rows_fit, stored_short, write_keys_short}
 use Rattle.mg_no_damage.proofs.KeyedLemmas.{tables_are_keyed}
 use Rattle.mg_no_damage.proofs.SilentLemmas.{others_silent}
 use Rattle.mg_no_damage.specs.Keyed.{IsKeyAt, IsKeyed}
@@ -86,10 +85,24 @@ use Rattle.mg_space.specs.declared.fault.SpaceFault.TheVariants as faults
 use Rattle.mg_space.specs.declared.links.FireLinks.{FireLinks}
 use Rattle.mg_image_overlays.specs.OneTable.{one_table, table_at_stands}
 use Rattle.mg_taking_back.specs.Formers.{MayComeBack}
-use Rattle.mg_taking_back.specs.Keys.{FailsKey, FailsPuttingBack, IsOwn, RefusesOwnAt, former, former_long, former_memory, former_not_put, former_unfit, key_not_put, key_unfit, key_unread, own_nobody, own_other, own_unread, own_unspoken}
+use Rattle.mg_engine_changes.specs.BackEntries.{HasEnteredBack, KeysEnterMidway}
+use Rattle.mg_engine_changes.specs.EnteredAllLaws.{no_more}
+use Rattle.mg_engine_steps.specs.Midway.{GoesBack}
+use Rattle.mg_entries.specs.Entries.{FailsAll, FailsEntry, LaysAll, no_index}
+use Rattle.mg_entry_ties.specs.IndexPlaces.{HasRoot}
+use Rattle.mg_entry_ties.specs.Laws.{InsertionsAreLawful, InsertionsMeetNone}
+use Rattle.mg_image.specs.Indexes.{index_entry}
+use Rattle.mg_model.specs.Legal.{IsLegal, MayBegin}
+use Rattle.mg_model.specs.declared.change.Point.{Point}
+use Rattle.mg_model.specs.declared.table.Index.{Index}
+use Rattle.mg_no_damage.specs.EntryBacks.{sound_entered, trees_entered}
+use Rattle.mg_no_damage.specs.EntryCalls.{TreesStand, entry_meets_none, root_there}
+use Rattle.mg_no_damage.specs.Inventory.{PagesAreTaken}
+use Rattle.mg_row_writes.specs.Laying.{FailsEnterOwn, KeysMayBeLaid, not_entered, not_put_in}
+use Rattle.mg_space.specs.RegionLaws.{sound_regions}
+use Rattle.mg_taking_back.specs.Keys.{FailsKey, FailsPuttingBack, IsOwn, IsOwnAt, RefusesOwnAt, former, former_key_long, former_long, former_memory, former_not_put, former_unfit, key_not_put, key_unfit, key_unread, own_nobody, own_other, own_unread, own_unspoken}
 use Rattle.mg_undo.specs.declared.changes.Was.{Was}
 use Rattle.mg_undo.specs.declared.changes.Was.TheVariants as wases
-use Rattle.mg_value.specs.Rows.{row_len_of}
 use Rattle.mg_value.specs.declared.shape.Column.{Column}
 use Rattle.mg_value.specs.declared.shape.Shape.{Shape}
 use Rattle.mg_value.specs.declared.value.Value.{Value}
@@ -137,6 +150,16 @@ pub own_missing : {D : Type 0} (m : Meaning D) (a b : Pool D FireLinks) (fills :
 own_missing m a b fills refuses n (not_filled keeps alone told why) = alone
 own_missing m a b fills refuses n (not_changed batch ready keeps online filled fails) = fails.left
 
+-- where entries come first
+then_missing : {D : Type 0} (m : Meaning D) (a b : Pool D FireLinks) (table : Table) (rec : RecId) (v : Version)
+    (write : Write) (n : ℕ) → FailsEnterOwn m a b table rec write v (faults.Pool (pool_faults.Absent n)) → ⊥
+then_missing m a b table rec v (writes.Insert row) n (not_entered fails) =
+    own_missing m fails.mid b _ _ n fails.refused
+then_missing m a b table rec v (writes.Change key row) n (not_entered fails) =
+    own_missing m fails.mid b _ _ n fails.refused
+then_missing m a b table rec v (writes.Erase key) n (not_entered never) = never
+then_missing m a b table rec v write n (not_put_in entered enters fails) = own_missing m entered b _ _ n fails
+
 putting_missing : {D : Type 0} (m : Meaning D) (a b : Pool D FireLinks) (t : ℕ) (table : Table) (rec : RecId)
     (write : Option Write) (n : ℕ)
     → FailsPuttingBack m a b t table rec write (faults.Pool (pool_faults.Absent n)) → ⊥
@@ -144,7 +167,9 @@ putting_missing m a b t table rec None n fails = own_missing m a b _ _ n fails
 putting_missing m a b t table rec (Some write) n (former_unfit not_ is same) = absurd cc
 putting_missing m a b t table rec (Some write) n (former_memory is same) = absurd cc
 putting_missing m a b t table rec (Some write) n (former_long v stored not_ is same) = absurd cc
-putting_missing m a b t table rec (Some write) n (former_not_put v stored may fails) = own_missing m a b _ _ n fails
+putting_missing m a b t table rec (Some write) n (former_key_long not_ is same) = absurd cc
+putting_missing m a b t table rec (Some write) n (former_not_put v stored may short fails) =
+    then_missing m a b table rec v write n fails
 
 pub keys_miss_no_page : {D : Type 0} (m : Meaning D) → KeysMissNoPage D m
 keys_miss_no_page m before after state live t table key was n (key_unfit not_ is same) = absurd cc
@@ -183,14 +208,22 @@ former_fits shape key (wases.Row row) keyed returns write is =
 
 -- ---- a key
 
+-- What is known of insertions: an entry meets no damage where the page inventory has none.
+pub record EntriesMeetNone : Type 0 where
+  pub lawful : InsertionsAreLawful
+  pub none : InsertionsMeetNone
+  pub taken : PagesAreTaken
+
 module _ {D : Type 0} (m : Meaning D) (stand : KeptTablesStand) (named : KeptTablesAreNamed) (speak : SpeakersStand)
     (places : PlacesOfReadings) (lawful_of : SoundRecordsAreLawful) (tables_stand : SoundTablesStand)
     (read : TablesAreRead m) (ways : WaysAreRead m) (out : VersionsAreTakenOut m) (replaced : VersionsAreReplaced m)
+    (enter : KeysEnterMidway D m) (entries : EntriesMeetNone)
     (size : ℕ) (o : Opening) (h : Entries) (e : Entry) (t : ℕ) (whole left : List Change) (s : Standing)
     (start before after : Pool D FireLinks) (begun : Pages) (first : ShowsHistory packed_form size o h s begun)
     (i : Image) (asked : Asked) (session : Sessions)
-    (midway : StandsMidway m size o h e t whole left s start before begun first i asked session)
-    (memory : Remembers o h s) (active : s.state t ≡ Active) (catalog : ℕ) (works : List Working)
+    (midway : StandsMidway m size o h e t whole left s start before begun first i asked session) (point : Point)
+    (opening : MayBegin o) (legal : IsLegal o h) (memory : Remembers o h s) (goes : GoesBack o h e point s asked t)
+    (catalog : ℕ) (works : List Working)
     (keeps : KeepsWritten catalog works s.table) (knows : KnowsCache m size s before i) (c : Change)
     (to_take : has_change left c.table c.key ≡ true) (changed : has_change (own o h t) c.table c.key ≡ true)
     (table : Table) (kept : written_to works t (s.number t c.table) ≡ Some table) where
@@ -202,6 +235,9 @@ module _ {D : Type 0} (m : Meaning D) (stand : KeptTablesStand) (named : KeptTab
 
   abbrev r : Reading
   r = midway.pages.reading
+
+  active : s.state t ≡ Active
+  active = goes.active
 
   active_told : state_of o h t ≡ Active
   active_told = sym (memory.state t) ∙ active
@@ -389,16 +425,22 @@ module _ {D : Type 0} (m : Meaning D) (stand : KeptTablesStand) (named : KeptTab
         → MayBeStored store.geometry.size table.pointer.0 v
     may_store write v stored =
         let on = tables_stand store.geometry.size (left_state everyone s.state) (shown store.dirty i)
-        midway.pages.layout midway.pages.reading sound_on there.its table there.stands there.same in
-        let (x, is, same) = alike_some (s.table t table.name) table
-        (keeps.seen t table (kept_one (work_of works t) (s.number t c.table) table kept)) in record {
+        midway.pages.layout midway.pages.reading sound_on there.its table there.stands there.same in record {
           some = subst (λ (p : PageNo). p.0 ≢ 0) on.same.pointer on.has.first;
           short = stored_short store.geometry.size table t write v stored
-              (subst (λ (shape : Shape). row_len_of shape.columns ≤ store.geometry.size / 2) same.shape
-              (rows_fit store.geometry.size (map (λ stand. stand.table) midway.pages.layout.tables) x
-              sound_on.names.all.fit (finds_it.seen table.name x is)))
+              (rows_fit store.geometry.size (map (λ stand. stand.table) midway.pages.layout.tables) table
+              sound_on.names.all.fit (finds_it.seen table.name table (keeps.seen t table
+              (kept_one (work_of works t) (s.number t c.table) table kept))))
               (page_sizes store.geometry.size shows.geometry.size).0;
         }
+
+    -- and so do the keys of its row
+    keys_short : (write : Write) → FitsShape table.shape write → KeysMayBeLaid store.geometry.size table write
+    keys_short write fits = write_keys_short store.geometry.size table write fits
+        (keys_fit store.geometry.size (map (λ stand. stand.table) midway.pages.layout.tables) table
+        sound_on.names.all.fit (finds_it.seen table.name table (keeps.seen t table
+        (kept_one (work_of works t) (s.number t c.table) table kept))))
+        (page_sizes store.geometry.size shows.geometry.size).0
 
     its_record : IsRecordOf midway.pages.layout midway.pages.reading speaker_there.p there.its
     its_record = record {
@@ -408,20 +450,96 @@ module _ {D : Type 0} (m : Meaning D) (stand : KeptTablesStand) (named : KeptTab
       are = begins.2;
     }
 
-    put_back : (rec : RecId) → speaker_there.p ≡ rec → (write : Option Write)
+    -- the entries of a row come first
+    module _ (up : store.offline ≡ None) (rec : RecId)
+        (own_at : IsOwnAt s.state s.live t (shown before.dirty i) table c.key rec) (row : Row) (it : Damaged) where
+      -- of some indexes they were laid
+      module _ (indexes later : List Index) (parts : table.indexes ≡ indexes ++ later) (now : Pool D FireLinks)
+          (laid : LaysAll m indexes rec row store now) where
+        abbrev back : HasEnteredBack m size o h e t whole left s start store now begun first i asked session table c.key
+            rec indexes row
+        back = enter size o h e point t whole left s start before store now begun first i asked session opening legal memory
+            goes catalog works keeps (s.number t c.table) table kept midway knows c.key rec own_at same up indexes later
+            parts row laid
+
+        sound_then : IsSoundBy packed_form now.geometry.size (left_state everyone s.state) (shown now.dirty back.enters.image)
+            back.enters.then_.pages.layout back.enters.then_.pages.reading
+        sound_then = sound_entered m size o h e t whole left s start store now begun first i asked session table c.key rec
+            indexes row back
+
+        shows_then : ShowsSound m now back.enters.image (left_state everyone s.state) back.enters.then_.pages.layout
+            back.enters.then_.pages.reading
+        shows_then = record {
+          tells = back.enters.knows.tells;
+          geometry = back.enters.knows.geometry;
+          sound = sound_then;
+        }
+
+        -- the trees of the table stand
+        trees_then : TreesStand m now table.indexes
+        trees_then = trees_entered m size o h e t whole left s start store now begun first i asked session table c.key rec
+            indexes row back
+
+        abbrev record_then : IsRecordOf back.enters.then_.pages.layout back.enters.then_.pages.reading rec table
+        record_then = record {
+          of = back.is.of_table;
+          newest = back.is.newest;
+          older = back.is.older;
+          are = back.is.read;
+        }
+
+        -- the next entry is not refused by damage, nor the version that comes then
+        next_none : (index : Index) → HasRoot table.indexes index.root.0
+            → FailsEntry m now after index.root.0 (index_entry index rec row) (faults.Damaged it) → ⊥
+        next_none index has fails = entry_meets_none m entries.lawful entries.none entries.taken now after
+            back.enters.image table.indexes index.root.0 (index_entry index rec row) it back.enters.knows.tells
+            back.enters.knows.geometry (sound_regions now.geometry (shown now.dirty back.enters.image)
+            back.enters.knows.geometry sound_then.header.whole sound_then.inventory) sound_then.header.whole trees_then has
+            fails
+
+        version_none : (write : Write) (v : Version) → IsStored table t write v
+            → FailsReplacing m now after rec v (faults.Damaged it) → ⊥
+        version_none write v stored fails = replaced now after back.enters.image (left_state everyone s.state)
+            back.enters.then_.pages.layout back.enters.then_.pages.reading shows_then rec table record_then v
+            (same_number back.is.newest.version.tx v.tx (back.is.own ∙ sym stored.its))
+            (subst (λ (g : Geometry). length v.body + 42 ≤ g.size) (sym back.enters.geometry) (may_store write v stored).short)
+            it fails
+
+      all_none : FailsAll m table.indexes rec row store after (faults.Damaged it) → ⊥
+      all_none fails = next_none fails.first (fails.index ∷ fails.later) fails.parts fails.mid fails.laid fails.index
+          (subst (λ (xs : List Index). HasRoot xs fails.index.root.0) (sym fails.parts)
+          (root_there fails.first fails.index fails.later)) fails.refused
+
+    -- what comes back is a row, or a deletion, which has no entry
+    replacing_none : store.offline ≡ None → (rec : RecId) → IsOwnAt s.state s.live t (shown before.dirty i) table c.key rec
+        → (write : Write) (v : Version) → IsStored table t write v → (it : Damaged)
+        → FailsEnterOwn m store after table rec write v (faults.Damaged it) → ⊥
+    replacing_none up rec own_at (writes.Insert row) v stored it (not_entered fails) = all_none up rec own_at row it fails
+    replacing_none up rec own_at (writes.Insert row) v stored it (not_put_in b enters fails) = version_none up rec own_at row
+        it table.indexes [] (sym (no_more table.indexes)) b enters (writes.Insert row) v stored fails
+    replacing_none up rec own_at (writes.Change key row) v stored it (not_entered fails) =
+        all_none up rec own_at row it fails
+    replacing_none up rec own_at (writes.Change key row) v stored it (not_put_in b enters fails) = version_none up rec own_at
+        row it table.indexes [] (sym (no_more table.indexes)) b enters (writes.Change key row) v stored fails
+    replacing_none up rec own_at (writes.Erase key) v stored it (not_entered never) = never
+    replacing_none up rec own_at (writes.Erase key) v stored it (not_put_in b enters fails) = version_none up rec own_at [] it
+        [] table.indexes refl store (no_index rec [] store) (writes.Erase key) v stored
+        (subst (λ (p : Pool D FireLinks). FailsReplacing m p after rec v (faults.Damaged it)) enters fails)
+
+    put_back : store.offline ≡ None → (rec : RecId) → IsOwnAt s.state s.live t (shown before.dirty i) table c.key rec
+        → speaker_there.p ≡ rec → (write : Option Write)
         → ((w : Write) → write ≡ Some w → FitsShape table.shape w) → (it : Damaged)
         → FailsPuttingBack m store after t table rec write (faults.Damaged it) → ⊥
-    unfolding its_record begins
-    put_back rec is None fits it fails = out store after i (left_state everyone s.state) midway.pages.layout
+    put_back up rec own_at is None fits it fails = out store after i (left_state everyone s.state) midway.pages.layout
         midway.pages.reading shows speaker_there.p there.its its_record it
         (subst (λ (x : RecId). FailsTakingOut m store after x (faults.Damaged it)) (sym is) fails)
-    put_back rec is (Some write) fits it (former_unfit not_ is_ same_) = not_ (fits write refl)
-    put_back rec is (Some write) fits it (former_memory memory_ same_) = absurd cc
-    put_back rec is (Some write) fits it (former_long v stored not_ is_ same_) = not_ (may_store write v stored)
-    put_back rec is (Some write) fits it (former_not_put v stored may fails) = replaced store after i
-        (left_state everyone s.state) midway.pages.layout midway.pages.reading shows speaker_there.p there.its
-        its_record v (same_number begins.0.version.tx v.tx (begins.3 ∙ sym stored.its)) may.short it
-        (subst (λ (x : RecId). FailsReplacing m store after x v (faults.Damaged it)) (sym is) fails)
+    put_back up rec own_at is (Some write) fits it (former_unfit not_ is_ same_) = not_ (fits write refl)
+    put_back up rec own_at is (Some write) fits it (former_memory memory_ same_) = absurd cc
+    put_back up rec own_at is (Some write) fits it (former_long v stored not_ is_ same_) = not_ (may_store write v stored)
+    put_back up rec own_at is (Some write) fits it (former_key_long not_ is_ same_) =
+        not_ (keys_short write (fits write refl))
+    put_back up rec own_at is (Some write) fits it (former_not_put v stored may short fails) =
+        replacing_none up rec own_at write v stored it fails
 
   -- the column of the key is there
   keyed : IsKeyed table.shape
@@ -433,14 +551,14 @@ module _ {D : Type 0} (m : Meaning D) (stand : KeptTablesStand) (named : KeptTab
   key_taken was returns it (key_unfit not_ is same) = not_ (may_come table.shape c.key was returns)
   key_taken was returns it (key_unread same reads told why) = own_found after same it (why i knows.tells)
   key_taken was returns it (key_not_put rec ready same online own_ fails) =
-      put_back ready same rec (it_is rec (own_ i knows.tells).spoken) (former c.key was)
+      put_back ready same online.1 rec (own_ i knows.tells) (it_is rec (own_ i knows.tells).spoken) (former c.key was)
       (former_fits table.shape c.key was keyed returns) it fails
 
 pub keys_meet_no_damage : {D : Type 0} (m : Meaning D) → KeptTablesStand → KeptTablesAreNamed → SpeakersStand
     → PlacesOfReadings → SoundRecordsAreLawful → SoundTablesStand → TablesAreRead m → WaysAreRead m
-    → VersionsAreTakenOut m → VersionsAreReplaced m → KeysMeetNoDamage D m
-keys_meet_no_damage m stand named speak places lawful_of tables_stand read ways out replaced size o h e t whole left s
-    start before after begun first i asked session midway memory active catalog works keeps knows c to_take changed
-    table kept was returns it fails = key_taken m stand named speak places lawful_of tables_stand read ways out replaced size o
-    h e t whole left s start before after begun first i asked session midway memory active catalog works keeps knows c
-    to_take changed table kept was returns it fails
+    → VersionsAreTakenOut m → VersionsAreReplaced m → KeysEnterMidway D m → EntriesMeetNone → KeysMeetNoDamage D m
+keys_meet_no_damage m stand named speak places lawful_of tables_stand read ways out replaced enter entries size o h e t
+    whole left s start before after begun first i asked session midway point opening legal memory goes catalog works keeps
+    knows c to_take changed table kept was returns it fails = key_taken m stand named speak places lawful_of tables_stand
+    read ways out replaced enter entries size o h e t whole left s start before after begun first i asked session midway
+    point opening legal memory goes catalog works keeps knows c to_take changed table kept was returns it fails

@@ -1,6 +1,9 @@
 -- A transaction is taken back to a point: the engine finds no page damaged, where no table goes.
 use Rattle.std.proofs.Common.{◌≡◌, ◌++◌, ap, refl, sym, subst, ◌∙◌, ℕ, Bool, true, false, List, [], ◌∷◌, Ok, Err}
 use Rattle.std.specs.Prelude.{map}
+use Rattle.mg_engine_changes.specs.BackEntries.{KeysEnterMidway}
+use Rattle.mg_no_damage.specs.BackTrees.{StandAll}
+use Rattle.mg_no_damage.specs.EntryBacks.{AllStandBack}
 use Rattle.mg_base.specs.Disk.{Meaning}
 use Rattle.mg_base.specs.declared.numbers.TxNo.{TxNo}
 use Rattle.mg_core.specs.Cores.{IsCore}
@@ -33,7 +36,7 @@ use Rattle.mg_taking_back.specs.Taking.{FailsBackTo, GivesUpBy, GivesUpIf, HasBe
 use Rattle.mg_undo.specs.Machine.{first_of, given_from, going_to}
 use Rattle.mg_undo.specs.Undo.{State as Undo, TakesBack as GivesAll}
 use Rattle.mg_undo.specs.declared.changes.Change.{Change as Kept}
-use Rattle.mg_no_damage.proofs.NextLemmas.{change_stays, given_next}
+use Rattle.mg_no_damage.proofs.NextLemmas.{change_stands, change_stays, given_next}
 use Rattle.mg_no_damage.specs.Backs.{MarksMeetNoDamage, SavepointsMeetNoDamage}
 use Rattle.mg_no_damage.specs.Stands.{DamageStands}
 use Rattle.mg_no_damage.specs.BackKeys.{KeysMeetNoDamage, KeysMissNoPage}
@@ -144,3 +147,42 @@ savepoints_meet_no_damage {D} m known law missing old new t name (Ok false) core
     ap (λ (c : Core D). c.damage) goes.2
 savepoints_meet_no_damage m known law missing old new t name (Err refusal) core none fails o h stands told =
     back_fails m known law missing old new t core (SavepointNamed name) none refusal fails o h stands told
+
+-- ---- and the trees stand at each change
+
+module _ {D P : Type 0} (m : Meaning D) (known : KnownOfBacks D P m) (law : KeysMeetNoDamage D m)
+    (missing : KeysMissNoPage D m) (enter : KeysEnterMidway D m) (old begun : Core D) (t : TxNo) (point : Point)
+    (undo : Undo) (core : IsCore m old) (none : TellsTables old t.0 point false) (has_begun : HasBegun old begun t.0 undo)
+    (reaches : MayReach undo point) (o : Opening) (h : Entries) (stands : StandsFor m old o h) (given : List Kept)
+    (end : Undo) (all : GivesAll (going_to undo point) given end) where
+  abbrev s : Standing
+  s = standing_of old stands.numbers stands.tables
+
+  abbrev whole : List Change
+  whole = since_point point (deeds_by t.0 (steps o h))
+
+  shows : ShowsIt m old o h (standing_of old stands.numbers stands.tables)
+  shows = shows_of m old o h stands has_begun.continues.0
+
+  back_so : IsBackEntry o h (entry (back_event t point) Fine) t.0 point
+  back_so = back_entry m old t point undo has_begun.continues has_begun.its o h stands known.notes reaches
+      (leaves_the_catalog m known old begun t point undo has_begun reaches none o h stands)
+
+  are_given : AreGiven o h (entry (back_event t point) Fine) t.0 (s.number t.0) whole given
+  are_given = known.undo_gives old.store.geometry.size (left_state everyone s.state)
+      (shown old.store.dirty shows.image) shows.stands.shows.layout shows.stands.shows.reading
+      shows.stands.shows.sound o h (entry (back_event t point) Fine) point t.0 s given end shows.stands.memory
+      has_begun.continues.1 (shows.stands.shows.tables t.0 has_begun.continues.1) back_so.back back_so.may
+      back_so.leaves (subst (λ (u : Undo). GivesAll (going_to u point) given end)
+      (sym has_begun.its.2 ∙ sym (ap undo_kept has_begun.its.1)) all)
+
+  pub all_stand : StandAll m t.0 (not_asking t.0 begun) given
+  all_stand front later c mid parts takes = change_stands m known law missing old begun mid t point undo core has_begun o h
+      stands shows (first_of whole) [] are_given.each are_given.keys mid front later c (sym parts ∙ are_given.given_is)
+      (subst (λ (x : Core D). TakesChanges m t.0 x front mid)
+      (ap (λ (x : Core D). not_asking t.0 x) has_begun.ended.same) takes) enter
+
+pub all_stand_back : {D P : Type 0} (m : Meaning D) → KnownOfBacks D P m → KeysMeetNoDamage D m → KeysMissNoPage D m
+    → KeysEnterMidway D m → AllStandBack D m
+all_stand_back m known law missing enter old begun t point undo core none has_begun reaches o h stands given end all =
+    all_stand m known law missing enter old begun t point undo core none has_begun reaches o h stands given end all

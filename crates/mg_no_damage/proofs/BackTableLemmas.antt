@@ -2,6 +2,10 @@
 use Rattle.std.proofs.Common.{◌≡◌, ◌≢◌, ◌==◌, ◌++◌, ap, refl, sym, subst, ◌∙◌, ℕ, Bool, true, false, List, [], ◌∷◌, Some, Ok, Err}
 use Rattle.std.proofs.lemmas.Bool.{ne_eqb}
 use Rattle.std.specs.Prelude.{if◌then◌else◌, map}
+use Rattle.mg_engine_changes.specs.BackEntries.{KeysEnterMidway}
+use Rattle.mg_no_damage.specs.BackTrees.{StandAll}
+use Rattle.mg_no_damage.specs.EntryBacks.{OthersStandBack}
+use Rattle.mg_model.specs.declared.refusal.Refusal.TheVariants as refusals
 use Rattle.mg_base.specs.Disk.{Meaning}
 use Rattle.mg_base.specs.Image.{Image}
 use Rattle.mg_base.specs.declared.damage.Damaged.{Damaged}
@@ -73,7 +77,7 @@ use Rattle.mg_value.specs.declared.value.Value.{Value}
 use Rattle.mg_works.specs.Works.{unasked, with_work}
 use Rattle.mg_no_damage.proofs.BackLemmas.{given_up_stays, taken_stays}
 use Rattle.mg_no_damage.proofs.BackKeyLemmas.{own_missing}
-use Rattle.mg_no_damage.proofs.NextLemmas.{change_stays, given_next}
+use Rattle.mg_no_damage.proofs.NextLemmas.{change_stands, change_stays, given_next}
 use Rattle.mg_no_damage.specs.Stands.{DamageStands}
 use Rattle.mg_no_damage.specs.BackKeys.{KeysMeetNoDamage, KeysMissNoPage}
 use Rattle.mg_no_damage.proofs.RowGivenLemmas.{each_both, each_named, each_of_catalog, key_there, not_before}
@@ -166,6 +170,15 @@ module _ {D P : Type 0} (m : Meaning D) (known : KnownOfBacks D P m) (apart : Gi
       of_tables : EachChange (IsOfTable o h t.0) (of_others firsts)
       of_tables = each_of_table m known.what_was known.keys apart old t.0 point o h e stands shows
           has_begun.continues.1 (takes_back t point) may given end gave
+
+    -- the trees stand at each of the changes of other tables
+    pub others_stand : KeysEnterMidway D m → (given : List Kept) (end : Undo) → GivesAll (going_to undo point) given end
+        → StandAll m t.0 (not_asking t.0 begun) (others_of (not_asking t.0 begun).catalog.pointer.0 given)
+    others_stand enter given end all = subst
+        (λ (x : Core D). StandAll m t.0 x (others_of x.catalog.pointer.0 given)) (sym begun_is)
+        (λ front later c mid parts takes. change_stands m known law missing old begun mid t point undo core has_begun o h
+        stands shows (of_others firsts) (of_catalog firsts) (of_tables given end all) left_rows mid front later c
+        (sym parts ∙ others given end all) takes enter)
 
     -- ---- it stops at a change of another table
 
@@ -407,13 +420,18 @@ marks_over_meet_no_damage m known apart go_on law missing rows_law speakers plac
     over_fails m known apart go_on law missing rows_law speakers places old new t core LastMark refusal fails o h stands told
 
 pub savepoints_over_meet_no_damage : {D P : Type 0} (m : Meaning D) → KnownOfBacks D P m → GivenApart
-    → RowsGoOn D FireLinks m → KeysMeetNoDamage D m → KeysMissNoPage D m → RowsMeetNoDamage D m → SpeakersOfReadings
-    → PlacesOfReadings → SavepointsOverMeetNoDamage D m
-savepoints_over_meet_no_damage m known apart go_on law missing rows_law speakers places old new t name (Ok true) core gone o
-    h stands told =
-    over_takes m known apart go_on law missing rows_law speakers places old new t core (SavepointNamed name) gone.1
-savepoints_over_meet_no_damage {D} m known apart go_on law missing rows_law speakers places old new t name (Ok false) core
-    gone o h stands told = ap (λ (c : Core D). c.damage) gone.2
-savepoints_over_meet_no_damage m known apart go_on law missing rows_law speakers places old new t name (Err refusal) core
-    fails o h stands told = over_fails m known apart go_on law missing rows_law speakers places old new t core
-    (SavepointNamed name) refusal fails o h stands told
+    → RowsGoOn D FireLinks m → KeysMeetNoDamage D m → KeysMissNoPage D m → RowsMeetNoDamage D m → SavepointsOverMeetNoDamage D m
+savepoints_over_meet_no_damage m known apart go_on law missing rows_law old new t name (Ok true) core gone o h stands told =
+    over_takes m known apart go_on law missing rows_law old new t core (SavepointNamed name) gone.1
+savepoints_over_meet_no_damage {D} m known apart go_on law missing rows_law old new t name (Ok false) core gone o h stands
+    told = ap (λ (c : Core D). c.damage) gone.2
+savepoints_over_meet_no_damage m known apart go_on law missing rows_law old new t name (Err refusal) core fails o h stands
+    told = over_fails m known apart go_on law missing rows_law old new t core (SavepointNamed name) refusal fails o h stands
+    told
+
+-- the trees stand at each change of another table than the catalog
+pub others_stand_back : {D P : Type 0} (m : Meaning D) → KnownOfBacks D P m → GivenApart → RowsGoOn D FireLinks m
+    → KeysMeetNoDamage D m → KeysMissNoPage D m → RowsMeetNoDamage D m → KeysEnterMidway D m → OthersStandBack D m
+others_stand_back m known apart go_on law missing rows_law enter old begun t point undo core has_begun reaches o h stands
+    given end all = others_stand m known apart go_on law missing rows_law old old t core point begun undo has_begun
+    reaches old refusals.Memory o h stands enter given end all

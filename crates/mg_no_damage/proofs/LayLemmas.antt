@@ -1,5 +1,5 @@
--- An engine that has read all that a write asks for lays the version without damage, where the table has no index: its
--- pages show a sound image, and so do those that the first batch of two leaves.
+-- An engine that has read all that a write asks for lays the version without damage: its pages show a sound image, and so do
+-- those that the first batch of two leaves, and each entry.
 use Rattle.mg_engine_meaning.specs.DirectoryLaws.{knows_key}
 use Rattle.mg_base.specs.Disk.{Meaning}
 use Rattle.mg_base.specs.Image.{Image}
@@ -15,26 +15,20 @@ use Rattle.mg_core.specs.Obstacles.{IsOfRecord}
 use Rattle.mg_core.specs.Putting.{StandsBefore}
 use Rattle.mg_core.specs.Writing.{HasBegun, IsFree, IsOfKey, KnowsKey}
 use Rattle.mg_core.specs.declared.parts.Core.{Core}
-use Rattle.mg_engine_changes.specs.Clearing.{HasCleared}
-use Rattle.mg_engine_changes.specs.Enters.{cleared_told, dead_cleared, placed_told, spot_taken, tells, there}
+use Rattle.mg_engine_changes.specs.Enters.{there}
 use Rattle.mg_engine_changes.specs.Laid.{HasNoted}
 use Rattle.mg_engine_changes.specs.Notes.{HasRead}
 use Rattle.mg_engine_changes.specs.RefusalLaws.{begun_read, found_read, free_answer, free_read, passed_read}
 use Rattle.mg_engine_changes.specs.Refusals.{IsReady}
-use Rattle.mg_engine_changes.specs.Spots.{HasTaken}
 use Rattle.mg_engine_changes.specs.StopLaws.{reads_on, told_before}
 use Rattle.mg_engine_meaning.specs.Meaning.{Places}
-use Rattle.mg_engine_meaning.specs.ReadLaws.{reads_stand}
 use Rattle.mg_engine_meaning.specs.Standings.{ShowsIt, StandsFor, asked_in, sessions_in, standing_of}
-use Rattle.mg_engine_meaning.specs.StepLaws.{shows_of}
-use Rattle.mg_no_damage.proofs.FitLemmas.{rows_fit, stored_short}
+use Rattle.mg_no_damage.proofs.FitLemmas.{keys_fit, rows_fit, stored_short, write_keys_short}
 use Rattle.mg_no_damage.proofs.SpokenLemmas.{IsOwn, goes_to, newest_found, record_of, replaced_own, same_number, spoken_record}
 use Rattle.mg_no_damage.proofs.WriteParts.{WriteParts}
 use Rattle.mg_no_damage.specs.StageLaws.{none_passed}
 use Rattle.mg_engine_steps.specs.Known.{IsShown}
-use Rattle.mg_engine_steps.specs.Writes.{IsSilentAt}
 use Rattle.mg_heap.specs.Apart.{HasPlace}
-use Rattle.mg_image.specs.Form.{Pages, packed_form}
 use Rattle.mg_model.specs.Answers.{answer}
 use Rattle.mg_model.specs.History.{Entries}
 use Rattle.mg_model.specs.Openings.{everyone}
@@ -46,7 +40,6 @@ use Rattle.mg_no_damage.specs.Batches.{ShowsSound}
 use Rattle.mg_no_damage.specs.Writes.{IsRecordOf}
 use Rattle.mg_overlays.specs.Overlays.{left_state}
 use Rattle.mg_pool.specs.Dirty.{DirtyPages}
-use Rattle.mg_pool.specs.Pool.{shown}
 use Rattle.mg_pool.specs.declared.pool.Pool.{Pool}
 use Rattle.mg_records.specs.Writing.{FitsShape, event_of}
 use Rattle.mg_records.specs.declared.write.Write.{Write}
@@ -54,7 +47,7 @@ use Rattle.mg_row_writes.specs.Befores.{IsBefore}
 use Rattle.mg_row_writes.specs.Changing.{FailsFirst, FailsOver, FailsPlace, FailsReplacing, FailsTakingOut, TakesNewestOut, TakesPlace}
 use Rattle.mg_row_writes.specs.Finding.{IsInWay}
 use Rattle.mg_row_writes.specs.Bare.{BareFails, no_first_there, no_place_there, not_out, not_over}
-use Rattle.mg_row_writes.specs.Storing.{MayBeStored, written_at}
+use Rattle.mg_row_writes.specs.Storing.{MayBeStored, row_stored, written_at}
 use Rattle.mg_row_writes.specs.declared.before.Before.{Before}
 use Rattle.mg_row_writes.specs.declared.before.Way.TheVariants as ways
 use Rattle.mg_row_writes.specs.declared.before.Way.{Way}
@@ -69,7 +62,25 @@ use Rattle.mg_txlist.specs.TxList.{said}
 use Rattle.mg_version.specs.declared.cell.Version.{Version}
 use Rattle.mg_waits.specs.Waits.{edges_in}
 use Rattle.mg_works.specs.Works.{given_to, work_of}
-use Rattle.std.proofs.Common.{None, Option, Some, ap, length, map, subst, sym, true, ℕ, ◌+◌, ◌∙◌, ◌≡◌, ◌≢◌, ◌≤◌}
+use Rattle.mg_engine_changes.specs.EnteredAllLaws.{AllEntered, RowEntered}
+use Rattle.mg_engine_changes.specs.EntryOverLaws.{StandsOver}
+use Rattle.mg_engine_changes.specs.Starts.{StandsCleared, StandsPlaced, StartsOver}
+use Rattle.mg_entries.specs.Entries.{FailsAll}
+use Rattle.mg_entry_ties.specs.IndexPlaces.{HasRoot}
+use Rattle.mg_image.specs.Form.{Pages, Row}
+use Rattle.mg_image.specs.Indexes.{index_entry}
+use Rattle.mg_image.specs.Records.{Reading}
+use Rattle.mg_image.specs.Tables.{stands_of, table_at}
+use Rattle.mg_image_overlays.specs.OneTable.{table_at_stands}
+use Rattle.mg_model.specs.declared.table.Index.{Index}
+use Rattle.mg_no_damage.specs.EntryCalls.{entry_meets_none, root_there}
+use Rattle.mg_no_damage.specs.EntryTrees.{no_places, trees_of_standing}
+use Rattle.mg_pool.specs.Pool.{IsPool, shown}
+use Rattle.mg_records.specs.declared.write.Write.TheVariants as writes
+use Rattle.mg_row_writes.specs.Laying.{EntersRow, FailsEnterFirst, FailsEnterOver, FailsEnterOwn, FailsEntering, FailsLay, FailsThen, KeysMayBeLaid, no_first, no_place, not_cleared, not_entered, not_pushed, not_put_in}
+use Rattle.mg_space.specs.RegionLaws.{sound_regions}
+use Rattle.mg_space.specs.declared.fault.SpaceFault.{SpaceFault}
+use Rattle.std.proofs.Common.{List, None, Option, Some, ap, length, map, subst, sym, true, ℕ, ◌+◌, ◌∙◌, ◌∷◌, ◌≡◌, ◌≢◌, ◌≤◌}
 
 module _ {D P : Type 0} (m : Meaning D) (places : Places P) (parts : WriteParts m) (old : Core D) (t : TxNo)
     (table : Table) (write : Write) (core : IsCore m old) (given : given_to old.works t.0 table.name ≡ Some table)
@@ -107,16 +118,18 @@ module _ {D P : Type 0} (m : Meaning D) (places : Places P) (parts : WriteParts 
 
   -- ---- pages were read
 
+  starts : StartsOver m old read o h t.0 table write before
+  starts = parts.starts no_places old read t table write before version o h core given noted fits ready stands
+
   abbrev mid_stands : StandsFor m (record old { store = read.store }) o h
-  mid_stands = reads_stand m places parts.begin parts.last old read.store since.keeps old.damage old.shortages o h
-      stands
+  mid_stands = starts.at_read.over.stands
 
   mid_online : read.store.offline ≡ None
   mid_online = since.keeps.offline ∙ online
 
   abbrev mid_shows : ShowsIt m (record old { store = read.store }) o h
       (standing_of (record old { store = read.store }) mid_stands.numbers mid_stands.tables)
-  mid_shows = shows_of m (record old { store = read.store }) o h mid_stands mid_online
+  mid_shows = starts.at_read.shows
 
   mid_told : m.tells read.store.disk ≡ true
   mid_told = mid_stands.tells
@@ -167,57 +180,6 @@ module _ {D P : Type 0} (m : Meaning D) (places : Places P) (parts : WriteParts 
   facts_at r is = subst Facts_at (sym (goes_to (said old.list) old.live t.0
       (shown read.store.dirty mid_shows.image) table ready.rec before facts.2) ∙ is) facts
 
-  -- ---- a place was taken
-
-  module _ (way : before.way ≡ ways.Make) (placed : Pool D FireLinks) (at : RecId)
-      (takes : TakesPlace m read.store placed table.pointer.0 at) where
-    silent_there : IsSilentAt packed_form read.store.geometry.size o h (standing_of (record old { store = read.store })
-        mid_stands.numbers mid_stands.tables) (shown read.store.dirty mid_shows.image) mid_shows.stands.shows
-        table.name (written_at table write)
-    silent_there = (tells parts.speakers parts.befores parts.follow parts.may_write parts.coded parts.lists m places
-        parts.unask (record old { store = read.store }) since.keeps.pool o h mid_stands mid_shows t begun.continues.1
-        begun.may.work work_is table given write fits read.waits since.over before version ready.has.stored
-        answered None (facts_at None (ap record_of way)).0).1
-
-    taken : HasTaken m o h (standing_of (record old { store = read.store }) mid_stands.numbers mid_stands.tables)
-        old.list read.store placed (shown read.store.dirty mid_shows.image) (asked_in old.works)
-        (sessions_in old.works) its_there.its at table.name (written_at table write) t.0
-    taken = spot_taken parts.speakers parts.befores parts.follow parts.may_write parts.coded parts.lists m places
-        parts.unask (record old { store = read.store }) since.keeps.pool o h mid_stands mid_shows t begun.continues.1
-        begun.may.work work_is table given write fits read.waits since.over before version ready.has.stored
-        answered noted parts.holds mid_geometry placed parts.one parts.dirs.one_way parts.begin parts.on parts.behind parts.still
-        silent_there at takes
-
-    taken_told : m.tells placed.disk ≡ true
-    taken_told = placed_told parts.speakers parts.befores parts.follow parts.may_write parts.coded parts.lists m places
-        parts.unask (record old { store = read.store }) since.keeps.pool o h mid_stands mid_shows t begun.continues.1
-        begun.may.work work_is table given write fits read.waits since.over before version ready.has.stored
-        answered noted parts.holds mid_geometry placed parts.one parts.dirs.one_way parts.begin parts.on parts.behind parts.still
-        silent_there at takes
-
-  -- ---- a dead transaction's version was taken out
-
-  module _ (rec : RecId) (way : before.way ≡ ways.PushOverDead rec) (placed : Pool D FireLinks)
-      (takes : TakesNewestOut m read.store placed rec) where
-    at_record : Facts_at (Some rec)
-    at_record = facts_at (Some rec) (ap record_of way)
-
-    cleared : HasCleared m o h (standing_of (record old { store = read.store }) mid_stands.numbers
-        mid_stands.tables) old.list read.store placed (shown read.store.dirty mid_shows.image) (asked_in old.works)
-        (sessions_in old.works) rec table.name (written_at table write) t.0
-    cleared = dead_cleared parts.speakers parts.befores parts.follow parts.may_write parts.coded parts.lists m places
-        parts.unask (record old { store = read.store }) since.keeps.pool o h mid_stands mid_shows t begun.continues.1
-        begun.may.work work_is table given write fits read.waits since.over before version ready.has.stored
-        answered noted parts.holds mid_geometry placed parts.one parts.dirs.one_way parts.on parts.behind parts.keep_plain
-        parts.ways_free parts.speak parts.deads rec at_record.0 at_record.2 way at_record.1 takes
-
-    cleared_tells : m.tells placed.disk ≡ true
-    cleared_tells = cleared_told parts.speakers parts.befores parts.follow parts.may_write parts.coded parts.lists m
-        places parts.unask (record old { store = read.store }) since.keeps.pool o h mid_stands mid_shows t
-        begun.continues.1 begun.may.work work_is table given write fits read.waits since.over before version
-        ready.has.stored answered noted parts.holds mid_geometry placed parts.one parts.dirs.one_way parts.on parts.behind
-        parts.keep_plain parts.ways_free parts.speak parts.deads rec at_record.0 at_record.2 way at_record.1 takes
-
   -- ---- the pages that were read
 
   abbrev state : ℕ → TxState
@@ -259,28 +221,127 @@ module _ {D P : Type 0} (m : Meaning D) (places : Places P) (parts : WriteParts 
       (record { memory = mid_shows.stands.memory; shows = mid_shows.stands.shows }) table (written_at table write)
       (Some rec) its_there at.0)
 
-  module _ (new : Pool D FireLinks) (it : Damaged) where
-    -- ---- in one batch
+  -- the keys of its row are short
+  pub keys_short : KeysMayBeLaid read.store.geometry.size table write
+  keys_short = write_keys_short read.store.geometry.size table write fits
+      (keys_fit read.store.geometry.size (map (λ stand. stand.table) mid_shows.stands.shows.layout.tables) table
+      mid_shows.stands.shows.sound.names.all.fit ((mid_shows.stands.shows.tables t.0 begun.continues.1).seen table.name
+      table (mid_stands.given t.0 table.name table given)))
+      (page_sizes read.store.geometry.size mid_geometry.size).0
 
-    pushes : (rec : RecId) → before.way ≡ ways.Push rec → FailsOver m read.store new rec version (space.Damaged it) → ⊥
-    pushes rec way own = let (x, its) = spoken rec (facts_at (Some rec) (ap record_of way)) in
-        parts.pushed read.store new mid_shows.image (left_state everyone (said old.list))
-        mid_shows.stands.shows.layout mid_shows.stands.shows.reading sound_mid rec x its version short it own
+  -- ---- entries, and then a version, from a store over which the engine stands
+
+  module _ (start : Pool D FireLinks) (it : StandsOver m old start o h t.0) (pool : IsPool m start)
+      (up : start.offline ≡ None) (from_old : start.geometry ≡ old.store.geometry) (rec : RecId)
+      (new : Pool D FireLinks) (damage : Damaged) where
+    -- an entry of its row meets none
+    module _ (row : Row) (fails : FailsAll m table.indexes rec row start new (space.Damaged damage)) where
+      some_laid : AllEntered m old start fails.mid o h t.0 it fails.first rec row
+      some_laid = parts.all no_places old read t table write before version o h core given noted fits ready stands
+          start fails.mid it pool up from_old fails.first (fails.index ∷ fails.later) fails.parts rec row fails.laid
+
+      some_geometry : IsGeometry fails.mid.geometry
+      some_geometry = subst IsGeometry (sym (some_laid.geometry ∙ from_old)) core.geometry
+
+      row_none : ⊥
+      row_none = entry_meets_none m parts.entries_lawful parts.entries_none parts.taken fails.mid new
+          some_laid.now.shows.image table.indexes fails.index.root.0 (index_entry fails.index rec row) damage
+          (record { told = some_laid.now.over.stands.tells; held = some_laid.now.shows.held }) some_geometry
+          (sound_regions fails.mid.geometry (shown fails.mid.dirty some_laid.now.shows.image) some_geometry
+          some_laid.now.shows.stands.shows.sound.header.whole some_laid.now.shows.stands.shows.sound.inventory)
+          some_laid.now.shows.stands.shows.sound.header.whole
+          (trees_of_standing m old o h t begun.continues.1 table given fails.mid some_laid.up some_laid.now.over.stands)
+          (subst (λ (xs : List Index). HasRoot xs fails.index.root.0) (sym fails.parts)
+          (root_there fails.first fails.index fails.later)) fails.refused
+
+    entries_none : (w : Write) → FailsEntering m start new table rec w (space.Damaged damage) → ⊥
+    entries_none (writes.Insert row) fails = row_none row fails
+    entries_none (writes.Change key row) fails = row_none row fails
+    entries_none (writes.Erase key) fails = absurd fails
+
+    then_none : (puts : Pool D FireLinks → SpaceFault → Type 0)
+        → ((b : Pool D FireLinks) → EntersRow m start b table rec write → puts b (space.Damaged damage) → ⊥)
+        → FailsThen m start new table rec write puts (space.Damaged damage) → ⊥
+    then_none puts each (not_entered fails) = entries_none write fails
+    then_none puts each (not_put_in b enters fails) = each b enters fails
+
+    -- behind all of them the pages show a sound image with the same records
+    module _ (b : Pool D FireLinks) (enters : EntersRow m start b table rec write) where
+      abbrev entered : RowEntered m old start b o h t.0 it table rec version (row_stored table write)
+      entered = parts.rows_enter no_places old read t table write before version o h core given noted fits ready stands
+          start b it pool up from_old rec enters
+
+      sound_then : ShowsSound m b entered.now.shows.image (left_state everyone (said old.list))
+          entered.now.shows.stands.shows.layout entered.now.shows.stands.shows.reading
+      sound_then = record {
+        tells = record { told = entered.now.over.stands.tells; held = entered.now.shows.held };
+        geometry = subst IsGeometry (sym (entered.geometry ∙ from_old)) core.geometry;
+        sound = entered.now.shows.stands.shows.sound;
+      }
+
+      abbrev its_then : (x : Table) → IsRecordOf it.shows.stands.shows.layout it.shows.stands.shows.reading rec x
+          → IsRecordOf entered.now.shows.stands.shows.layout entered.now.shows.stands.shows.reading rec x
+      its_then x its = record {
+        of = entered.owners rec.page.0 ∙ its.of;
+        newest = its.newest;
+        older = its.older;
+        are = ap (λ (r : Reading). r rec) entered.reads ∙ its.are;
+      }
+
+      short_then : length version.body + 42 ≤ b.geometry.size
+      short_then = subst (λ (g : Geometry). length version.body + 42 ≤ g.size)
+          (since.keeps.geometry ∙ sym (entered.geometry ∙ from_old)) short
+
+    -- ---- the ways
+
+    pushed_none : (x : Table) → IsRecordOf it.shows.stands.shows.layout it.shows.stands.shows.reading rec x
+        → FailsEnterOver m start new table rec write version (space.Damaged damage) → ⊥
+    pushed_none x its fails = then_none (λ b given. FailsOver m b new rec version given)
+        (λ b enters own. parts.pushed b new (entered b enters).now.shows.image (left_state everyone (said old.list))
+        (entered b enters).now.shows.stands.shows.layout (entered b enters).now.shows.stands.shows.reading
+        (sound_then b enters) rec x (its_then b enters x its) version (short_then b enters) damage own) fails
+
+    replaced_none : (x : Table) (its : IsRecordOf it.shows.stands.shows.layout it.shows.stands.shows.reading rec x)
+        → its.newest.version.tx ≡ version.tx
+        → FailsEnterOwn m start new table rec write version (space.Damaged damage) → ⊥
+    replaced_none x its own_tx fails = then_none (λ b given. FailsReplacing m b new rec version given)
+        (λ b enters own. parts.replaced b new (entered b enters).now.shows.image (left_state everyone (said old.list))
+        (entered b enters).now.shows.stands.shows.layout (entered b enters).now.shows.stands.shows.reading
+        (sound_then b enters) rec x (its_then b enters x its) version own_tx (short_then b enters) damage own) fails
+
+    made_none : (x : Table) → table_at (stands_of it.shows.stands.shows.layout) rec.page.0 ≡ Some x
+        → x.pointer ≡ table.pointer → HasPlace (shown start.dirty it.shows.image rec.page.0) rec.slot
+        → FailsEnterFirst m start new table rec write version (space.Damaged damage) → ⊥
+    made_none x of same place fails = then_none (λ b given. FailsFirst m b new table.pointer.0 rec version given)
+        (λ b enters own. parts.made b new (entered b enters).now.shows.image (left_state everyone (said old.list))
+        (entered b enters).now.shows.stands.shows.layout (entered b enters).now.shows.stands.shows.reading
+        (sound_then b enters) x (table_at_stands (entered b enters).now.shows.stands.shows.layout rec.page.0 x
+        ((entered b enters).owners rec.page.0 ∙ of)) rec ((entered b enters).owners rec.page.0 ∙ of)
+        (subst (λ (page : List ℕ). HasPlace page rec.slot) (sym ((entered b enters).pages rec.page.0 x of)) place) version
+        (short_then b enters) damage
+        (subst (λ (p : PageNo). FailsFirst m b new p.0 rec version (space.Damaged damage)) (sym same) own)) fails
+
+  module _ (new : Pool D FireLinks) (it : Damaged) where
+    -- ---- in a record that is there
+
+    pushes : (rec : RecId) → before.way ≡ ways.Push rec
+        → FailsEnterOver m read.store new table rec write version (space.Damaged it) → ⊥
+    pushes rec way fails = let (x, its) = spoken rec (facts_at (Some rec) (ap record_of way)) in
+        pushed_none read.store starts.at_read since.keeps.pool mid_online since.keeps.geometry rec new it x its fails
 
     replaces : (rec : RecId) → before.way ≡ ways.Replace rec
-        → FailsReplacing m read.store new rec version (space.Damaged it) → ⊥
-    replaces rec way own =
+        → FailsEnterOwn m read.store new table rec write version (space.Damaged it) → ⊥
+    replaces rec way fails =
         let at : Facts_at (Some rec) = facts_at (Some rec) (ap record_of way) in
         let (x, its) = spoken rec at in
         let mine : IsOwn (said old.list) old.live t.0 (shown read.store.dirty mid_shows.image) rec =
         replaced_own (said old.list) old.live t.0 (shown read.store.dirty mid_shows.image) table rec rec before at.2
         way in
-        parts.replaced read.store new mid_shows.image (left_state everyone (said old.list))
-        mid_shows.stands.shows.layout mid_shows.stands.shows.reading sound_mid rec x its version
+        replaced_none read.store starts.at_read since.keeps.pool mid_online since.keeps.geometry rec new it x its
         (sym (newest_found parts.places_of (said old.list) (left_state everyone (said old.list)) old.live
         (shown read.store.dirty mid_shows.image) mid_shows.stands.shows.layout mid_shows.stands.shows.reading
         mid_shows.stands.shows.sound.records rec x its mine.newest mine.first)
-        ∙ same_number mine.newest.version.tx version.tx (mine.own ∙ sym ready.has.stored.its)) short it own
+        ∙ same_number mine.newest.version.tx version.tx (mine.own ∙ sym ready.has.stored.its)) fails
 
     places_taken : FailsPlace m read.store new table.pointer.0 (space.Damaged it) → ⊥
     places_taken own = parts.placed read.store new mid_shows.image (left_state everyone (said old.list))
@@ -293,79 +354,55 @@ module _ {D P : Type 0} (m : Meaning D) (places : Places P) (parts : WriteParts 
         parts.out read.store new mid_shows.image (left_state everyone (said old.list))
         mid_shows.stands.shows.layout mid_shows.stands.shows.reading sound_mid rec x its it own
 
-    -- ---- in the second of two
+    -- ---- after a first batch
 
     module _ (way : before.way ≡ ways.Make) (placed : Pool D FireLinks) (at : RecId)
         (takes : TakesPlace m read.store placed table.pointer.0 at) where
-      abbrev now : HasTaken m o h (standing_of (record old { store = read.store }) mid_stands.numbers
-          mid_stands.tables) old.list read.store placed (shown read.store.dirty mid_shows.image) (asked_in old.works)
-          (sessions_in old.works) its_there.its at table.name (written_at table write) t.0
-      now = taken way placed at takes
+      abbrev now : StandsPlaced m old placed o h t.0 table at
+      now = starts.at_placed way placed at takes
 
-      placed_geometry : placed.geometry ≡ read.store.geometry
-      placed_geometry = takes.changed.geometry ∙ takes.keeps.geometry
+      placed_geometry : placed.geometry ≡ old.store.geometry
+      placed_geometry = takes.changed.geometry ∙ (takes.keeps.geometry ∙ since.keeps.geometry)
 
-      sound_placed : ShowsSound m placed now.image (left_state everyone (said old.list))
-          now.spot_of.stands.shows.layout now.spot_of.stands.shows.reading
-      sound_placed = record {
-        tells = record { told = taken_told way placed at takes; held = now.held };
-        geometry = subst IsGeometry (sym placed_geometry) mid_geometry;
-        sound = now.spot_of.stands.shows.sound;
-      }
-
-      has_place : HasPlace (shown placed.dirty now.image at.page.0) at.slot
+      has_place : HasPlace (shown placed.dirty now.it.shows.image at.page.0) at.slot
       has_place = subst (λ (pages : Pages). HasPlace (pages at.page.0) at.slot)
-          (sym (changed_fresh m read.store placed mid_shows.image now.image takes.batch (asked_in old.works)
+          (sym (changed_fresh m read.store placed mid_shows.image now.it.shows.image takes.batch (asked_in old.works)
           (sessions_in old.works) (record {
             ready = takes.ready;
             geometry = mid_geometry;
             keeps = takes.keeps;
             frame = takes.changed.frame;
             tells = tells_mid;
-            held = now.held;
+            held = now.it.shows.held;
           })).pool) (parts.room read.store mid_shows.image (left_state everyone (said old.list))
           mid_shows.stands.shows.layout mid_shows.stands.shows.reading sound_mid its_there.its its_there.stands
           takes.batch at (subst (λ (p : PageNo). GivesSpot read.store mid_shows.image no_batch takes.batch p.0 at)
           (sym its_there.same.pointer) (takes.filled mid_shows.image tells_mid)))
 
-      firsts : FailsFirst m placed new table.pointer.0 at version (space.Damaged it) → ⊥
-      firsts own = parts.made placed new now.image (left_state everyone (said old.list))
-          now.spot_of.stands.shows.layout now.spot_of.stands.shows.reading sound_placed its_there.its now.spot_of.its
-          at now.spot_of.placed has_place version
-          (subst (λ (g : Geometry). length version.body + 42 ≤ g.size) (sym placed_geometry) short) it
-          (subst (λ (p : PageNo). FailsFirst m placed new p.0 at version (space.Damaged it))
-          (sym its_there.same.pointer) own)
+      firsts : FailsEnterFirst m placed new table at write version (space.Damaged it) → ⊥
+      firsts fails = made_none placed now.it takes.changed.pool takes.changed.online.1 placed_geometry at new it now.its
+          now.placed now.same has_place fails
 
-    module _ (rec : RecId) (way : before.way ≡ ways.PushOverDead rec) (placed : Pool D FireLinks)
-        (takes : TakesNewestOut m read.store placed rec) where
-      abbrev gone : HasCleared m o h (standing_of (record old { store = read.store }) mid_stands.numbers
-          mid_stands.tables) old.list read.store placed (shown read.store.dirty mid_shows.image) (asked_in old.works)
-          (sessions_in old.works) rec table.name (written_at table write) t.0
-      gone = cleared rec way placed takes
+    module _ (rec : RecId) (way : before.way ≡ ways.PushOverDead rec) (cleared : Pool D FireLinks)
+        (takes : TakesNewestOut m read.store cleared rec) where
+      abbrev gone : StandsCleared m old cleared o h t.0 table (written_at table write) rec
+      gone = starts.at_cleared rec way cleared takes
 
-      cleared_geometry : placed.geometry ≡ read.store.geometry
-      cleared_geometry = takes.changed.geometry ∙ takes.keeps.geometry
-
-      overs : FailsOver m placed new rec version (space.Damaged it) → ⊥
-      overs own =
-          let (x, its) = spoken_record o h (left_state everyone (said old.list)) (shown placed.dirty gone.image)
-          gone.settled_of.stands.shows.layout gone.settled_of.stands.shows.reading
-          gone.settled_of.stands.shows.versions table.name (written_at table write) rec gone.settled_of.speaks in
-          parts.pushed placed new gone.image (left_state everyone (said old.list))
-          gone.settled_of.stands.shows.layout gone.settled_of.stands.shows.reading (record {
-            tells = record { told = cleared_tells rec way placed takes; held = gone.held };
-            geometry = subst IsGeometry (sym cleared_geometry) mid_geometry;
-            sound = gone.settled_of.stands.shows.sound;
-          }) rec x its version
-          (subst (λ (g : Geometry). length version.body + 42 ≤ g.size) (sym cleared_geometry) short) it own
+      overs : FailsEnterOver m cleared new table rec write version (space.Damaged it) → ⊥
+      overs fails =
+          let (x, its) = spoken_record o h (left_state everyone (said old.list)) (shown cleared.dirty gone.it.shows.image)
+          gone.it.shows.stands.shows.layout gone.it.shows.stands.shows.reading
+          gone.it.shows.stands.shows.versions table.name (written_at table write) rec gone.speaks in
+          pushed_none cleared gone.it takes.changed.pool takes.changed.online.1
+          (takes.changed.geometry ∙ (takes.keeps.geometry ∙ since.keeps.geometry)) rec new it x its fails
 
     -- ---- on its way
 
     pub laid : (way : Way) → before.way ≡ way
-        → BareFails m read.store new table.pointer.0 way version (space.Damaged it) → ⊥
-    laid ways.Make is (no_place_there own) = places_taken own
-    laid ways.Make is (no_first_there at placed takes own) = firsts is placed at takes own
-    laid (ways.Push rec) is own = pushes rec is own
-    laid (ways.PushOverDead rec) is (not_out own) = outs rec is own
-    laid (ways.PushOverDead rec) is (not_over placed takes own) = overs rec is placed takes own
-    laid (ways.Replace rec) is own = replaces rec is own
+        → FailsLay m read.store new table way write version (space.Damaged it) → ⊥
+    laid ways.Make is (no_place own) = places_taken own
+    laid ways.Make is (no_first at placed takes fails) = firsts is placed at takes fails
+    laid (ways.Push rec) is fails = pushes rec is fails
+    laid (ways.PushOverDead rec) is (not_cleared own) = outs rec is own
+    laid (ways.PushOverDead rec) is (not_pushed cleared takes fails) = overs rec is cleared takes fails
+    laid (ways.Replace rec) is fails = replaces rec is fails

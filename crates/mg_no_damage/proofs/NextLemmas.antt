@@ -1,9 +1,15 @@
 -- A transaction is taken back over some changes, and then comes the next one: the engine finds no page damaged.
-use Rattle.std.proofs.Common.{◌≡◌, ◌⊎◌, inl, inr, ◌==◌, ◌++◌, ap, refl, sym, subst, ◌∙◌, ℕ, Bool, true, false, ◌&&◌, ◌||◌, List, [], ◌∷◌, Option, None, Some, cond}
+use Rattle.std.proofs.Common.{◌≡◌, ◌⊎◌, ◌≤◌, length, arith, inl, inr, ◌==◌, ◌++◌, ap, refl, sym, subst, ◌∙◌, ℕ, Bool, true, false, ◌&&◌, ◌||◌, List, [], ◌∷◌, Option, None, Some, cond}
 use Rattle.std.proofs.lemmas.Bool.{eq-eqb, eqb-true, false≢true}
 use Rattle.std.proofs.lemmas.List.{append_assoc}
 use Rattle.std.specs.Cmp.Lexicographic.{same_text}
 use Rattle.std.specs.Prelude.{if◌then◌else◌, is_some, map}
+use Rattle.mg_engine_changes.specs.BackEntries.{KeysEnterMidway}
+use Rattle.mg_engine_changes.specs.WrittenLaws.{kept_itself}
+use Rattle.mg_model.specs.declared.table.Index.{Index}
+use Rattle.mg_records.specs.Room.{most_indexes}
+use Rattle.mg_no_damage.specs.BackTrees.{StandsBack}
+use Rattle.mg_no_damage.specs.EntryBacks.{trees_entered}
 use Rattle.mg_base.specs.Disk.{Meaning}
 use Rattle.mg_base.specs.declared.numbers.TxNo.{TxNo}
 use Rattle.mg_core.specs.Cores.{IsCore}
@@ -46,7 +52,7 @@ use Rattle.mg_pool.specs.Pool.{shown}
 use Rattle.mg_pool.specs.declared.fault.PoolFault.TheVariants as pool_faults
 use Rattle.mg_space.specs.declared.fault.SpaceFault.{SpaceFault}
 use Rattle.mg_space.specs.declared.fault.SpaceFault.TheVariants as faults
-use Rattle.mg_taking_back.specs.Changes.{FailsChange, change_not_taken, change_of_none}
+use Rattle.mg_taking_back.specs.Changes.{FailsChange, change_not_taken, change_of_none, table_back}
 use Rattle.mg_taking_back.specs.Keys.{FailsKey}
 use Rattle.mg_taking_back.specs.Taking.{HasBegun, TakesChanges}
 use Rattle.mg_txlist.specs.TxList.{said}
@@ -379,7 +385,8 @@ module _ {D P : Type 0} (m : Meaning D) (known : KnownOfBacks D P m) (law : Keys
     fault_stays after (faults.Damaged it) table kept fails shortages counts = absurd (law old.store.geometry.size o h e
         t.0 whole taken.rest s old.store at_core.store after.store (shown old.store.dirty shows.image)
         shows.stands.shows taken.image (asked_in (with_work t.0 unasked old.works)) (sessions_in old.works)
-        taken.midway shows.stands.memory has_begun.continues.1 old.catalog.pointer.0 works
+        taken.midway point (opening m known old begun t point undo core has_begun o h stands shows) shows.stands.legal
+        shows.stands.memory (goes m known old begun t point undo core has_begun o h stands shows) old.catalog.pointer.0 works
         (kept_begun m known old begun t point undo core has_begun o h stands shows) taken.knows c taken.to_come.each.0
         of.made table kept (was_in (own o (entry (back_event t point) Fine ∷ h) t.0) c.table c.key)
         (its_returns table kept) it fails)
@@ -390,6 +397,36 @@ module _ {D P : Type 0} (m : Meaning D) (known : KnownOfBacks D P m) (law : Keys
         absurd (missing at_core.store after.store (said old.list) old.live t.0 table c.key
         (was_in (own o (entry (back_event t point) Fine ∷ h) t.0) c.table c.key) n fails)
     fault_stays after (faults.Pool pool_faults.Memory) table kept fails shortages counts = counts.0
+
+    -- the trees of its table stand before what was comes back, and they are few
+    module _ (enter : KeysEnterMidway D m) where
+      kept_of : (table : Table) → table_back old.catalog works t.0 (stands.numbers t.0 c.table) ≡ Some table
+          → written_to works t.0 (stands.numbers t.0 c.table) ≡ Some table
+      kept_of table found = kept_back old.catalog.pointer.0 (stands.numbers t.0 c.table) old.catalog
+          (written_to works t.0 (stands.numbers t.0 c.table)) (Some table) not_catalog found
+
+      stands_back : StandsBack m (record (begun_as old begun t.0) { store = at_core.store }) t.0
+          (given_from (stands.numbers t.0) (own o (entry (back_event t point) Fine ∷ h) t.0) c)
+      stands_back = record {
+        few = λ table found. subst (λ (xs : List Index). length xs ≤ most_indexes)
+            (sym (taken.knows.plain.each everyone taken.midway.pages.layout taken.midway.pages.reading
+            taken.midway.pages.sound table (kept_itself o h s t.0 taken.midway.pages.layout old.catalog.pointer.0 works
+            (taken.midway.pages.tables t.0 has_begun.continues.1)
+            (kept_begun m known old begun t point undo core has_begun o h stands shows) (stands.numbers t.0 c.table) table
+            (kept_of table found))).no_index) (omega arith);
+        trees = λ table found rec ready same online own_at row front later store parts laid.
+            trees_entered m old.store.geometry.size o h e t.0 whole taken.rest s old.store ready store
+            (shown old.store.dirty shows.image) shows.stands.shows taken.image
+            (asked_in (with_work t.0 unasked old.works)) (sessions_in old.works) table c.key rec front row
+            (enter old.store.geometry.size o h e point t.0 whole taken.rest s old.store at_core.store ready store
+            (shown old.store.dirty shows.image) shows.stands.shows taken.image
+            (asked_in (with_work t.0 unasked old.works)) (sessions_in old.works)
+            (opening m known old begun t point undo core has_begun o h stands shows) shows.stands.legal
+            shows.stands.memory (goes m known old begun t point undo core has_begun o h stands shows)
+            old.catalog.pointer.0 works (kept_begun m known old begun t point undo core has_begun o h stands shows)
+            (stands.numbers t.0 c.table) table (kept_of table found) taken.midway taken.knows c.key rec
+            (own_at taken.image taken.knows.tells) same online.1 front later parts row laid);
+      }
 
     fails_stay : (refusal : Refusal)
         → FailsChange m (record (begun_as old begun t.0) { store = at_core.store }) stopped t.0
@@ -441,3 +478,11 @@ module _ {D P : Type 0} (m : Meaning D) (known : KnownOfBacks D P m) (law : Keys
         refusal (subst (λ (x : Kept). FailsChange m (record (begun_as old begun t.0) { store = at_core.store }) stopped
         t.0 x refusal) (sym its.is_) (subst (λ (x : Core D). FailsChange m x stopped t.0 change refusal) has_taken.same
         fails))
+
+    pub change_stands : KeysEnterMidway D m → StandsBack m at_core t.0 change
+    change_stands enter = subst (λ (x : Kept). StandsBack m at_core t.0 x) its.is_
+        (subst (λ (x : Core D). StandsBack m x t.0
+        (given_from (stands.numbers t.0) (own o (entry (back_event t point) Fine ∷ h) t.0) its.c)) (sym has_taken.same)
+        (stands_back at_core its.keys (its.more ++ rows) its.c has_taken
+        (each_at (IsOfTable o h t.0) its.keys its.more its.c (subst (EachChange (IsOfTable o h t.0)) its.parts each))
+        enter))

@@ -17,7 +17,10 @@ use Rattle.mg_records.specs.Writing.{FitsShape}
 use Rattle.mg_records.specs.declared.write.Write.{Write}
 use Rattle.mg_row_writes.specs.Bare.{BareFails, IsBare, no_first_there, no_place_there, not_out, not_over}
 use Rattle.mg_row_writes.specs.BareLaws.{bare_fails, bare_keys}
-use Rattle.mg_row_writes.specs.Storing.{written_at}
+use Rattle.mg_records.specs.declared.write.Write.TheVariants as writes
+use Rattle.mg_row_writes.specs.Laying.{FailsEntering, FailsLay, FailsThen, no_first, no_place, not_cleared, not_entered, not_pushed, not_put_in}
+use Rattle.mg_row_writes.specs.Changing.{FailsFirst, FailsOver, FailsReplacing}
+use Rattle.mg_row_writes.specs.Storing.{row_stored, written_at}
 use Rattle.mg_row_writes.specs.declared.before.Before.{Before}
 use Rattle.mg_row_writes.specs.declared.before.Way.{Way}
 use Rattle.mg_row_writes.specs.declared.before.Way.TheVariants as ways
@@ -33,7 +36,6 @@ use Rattle.mg_core.specs.Putting.{FailsKept, FailsPut, key_too_long, no_before, 
 use Rattle.mg_core.specs.Refusing.{CountsFault}
 use Rattle.mg_core.specs.Writing.{FailsWrite, IsFree, Writes, at_record, at_row, at_table, no_key, not_begun, not_put, only_reads, KnowsKey}
 use Rattle.mg_no_damage.specs.CoreReads.{BeforesAreRead, KeysAreNamed, RecordsArePassed, RowsAreFound, ShowsTable, TablesArePassed}
-use Rattle.mg_engine_changes.specs.BareTables.{given_bare}
 use Rattle.mg_engine_changes.specs.KeptTables.{NotedTablesAreKept, NotedWorksStay, NotesStay}
 use Rattle.mg_engine_changes.specs.Laid.{HasNoted}
 use Rattle.mg_engine_changes.specs.NotedLaws.{noted_core, noted_given, table_noted}
@@ -47,21 +49,39 @@ use Rattle.mg_no_damage.specs.Keyed.{IsKeyed, TablesAreKeyed}
 use Rattle.mg_taking_back.specs.Noting.{noted_fails, noted_memory, noted_not, with_noted}
 use Rattle.mg_no_damage.specs.Calls.{WritesMeetNone}
 use Rattle.mg_no_damage.specs.CountLaws.{count, ended, refused}
-use Rattle.mg_no_damage.proofs.LayLemmas.{laid, may_store}
+use Rattle.mg_no_damage.proofs.LayLemmas.{keys_short, laid, may_store}
 use Rattle.mg_no_damage.specs.ShownLaws.{catalog_there, shown_table}
 use Rattle.mg_no_damage.specs.StageLaws.{at_befores, at_keys, at_records, at_rows, at_tables, own_there, read_stands}
 use Rattle.mg_no_damage.proofs.WriteParts.{WriteParts}
 
 -- ---- a batch is refused by no absent page
 
-lay_there : {D : Type 0} (m : Meaning D) (a b : Pool D FireLinks) (owner : ℕ) (way : Way) (v : Version) (n : ℕ)
-    → BareFails m a b owner way v (space.Pool (faults.Absent n)) → ⊥
-lay_there m a b owner ways.Make v n (no_place_there own) = own_there m a b _ _ n own
-lay_there m a b owner ways.Make v n (no_first_there at placed takes own) = own_there m placed b _ _ n own
-lay_there m a b owner (ways.Push rec) v n own = own_there m a b _ _ n own
-lay_there m a b owner (ways.PushOverDead rec) v n (not_out own) = own_there m a b _ _ n own
-lay_there m a b owner (ways.PushOverDead rec) v n (not_over placed takes own) = own_there m placed b _ _ n own
-lay_there m a b owner (ways.Replace rec) v n own = own_there m a b _ _ n own
+entries_there : {D : Type 0} (m : Meaning D) (a b : Pool D FireLinks) (table : Table) (rec : RecId) (write : Write) (n : ℕ)
+    → FailsEntering m a b table rec write (space.Pool (faults.Absent n)) → ⊥
+entries_there m a b table rec (writes.Insert row) n fails = own_there m fails.mid b _ _ n fails.refused
+entries_there m a b table rec (writes.Change key row) n fails = own_there m fails.mid b _ _ n fails.refused
+entries_there m a b table rec (writes.Erase key) n fails = absurd fails
+
+then_there : {D : Type 0} (m : Meaning D) (a b : Pool D FireLinks) (table : Table) (rec : RecId) (write : Write)
+    (puts : Pool D FireLinks → SpaceFault → Type 0) (n : ℕ)
+    → ((e : Pool D FireLinks) → puts e (space.Pool (faults.Absent n)) → ⊥)
+    → FailsThen m a b table rec write puts (space.Pool (faults.Absent n)) → ⊥
+then_there m a b table rec write puts n each (not_entered fails) = entries_there m a b table rec write n fails
+then_there m a b table rec write puts n each (not_put_in entered enters own) = each entered own
+
+lay_there : {D : Type 0} (m : Meaning D) (a b : Pool D FireLinks) (table : Table) (way : Way) (write : Write) (v : Version)
+    (n : ℕ) → FailsLay m a b table way write v (space.Pool (faults.Absent n)) → ⊥
+lay_there m a b table ways.Make write v n (no_place own) = own_there m a b _ _ n own
+lay_there m a b table ways.Make write v n (no_first at placed takes fails) = then_there m placed b table at write
+    (λ e given. FailsFirst m e b table.pointer.0 at v given) n (λ e own. own_there m e b _ _ n own) fails
+lay_there m a b table (ways.Push rec) write v n fails = then_there m a b table rec write
+    (λ e given. FailsOver m e b rec v given) n (λ e own. own_there m e b _ _ n own) fails
+lay_there m a b table (ways.PushOverDead rec) write v n (not_cleared own) = own_there m a b _ _ n own
+lay_there m a b table (ways.PushOverDead rec) write v n (not_pushed cleared takes fails) =
+    then_there m cleared b table rec write (λ e given. FailsOver m e b rec v given) n
+    (λ e own. own_there m e b _ _ n own) fails
+lay_there m a b table (ways.Replace rec) write v n fails = then_there m a b table rec write
+    (λ e given. FailsReplacing m e b rec v given) n (λ e own. own_there m e b _ _ n own) fails
 
 -- ---- the laws on what is read
 
@@ -107,10 +127,6 @@ module _ {D P : Type 0} (m : Meaning D) (places : Places P) (parts : WriteParts 
     known = knows_key m old o h stands.numbers stands.tables shows parts.dirs.walked table there parts.dirs.speakers
         (written_at table write)
 
-  -- its table has no index
-  bare : Continues old t.0 → IsBare table
-  bare continues = given_bare m old o h stands continues.0 t.0 continues.1 table given
-
   -- the version is not laid
   kept_stands : (read : Core D) (before : Before) (v : Version) (refusal : Refusal)
       → IsReady m old read t table write before v
@@ -118,14 +134,12 @@ module _ {D P : Type 0} (m : Meaning D) (places : Places P) (parts : WriteParts 
       → new.damage ≡ read.damage
   kept_stands read before v refusal ready (too_long never counts) = absurd (never (may_store m places parts old t table
       write core given noted fits o h read before v ready stands))
-  kept_stands read before v refusal ready (key_too_long never counts) = absurd (never (bare_keys m table
-      (bare ready.is_free.has_found.has_passed.has_begun.continues) read.store.geometry.size write))
+  kept_stands read before v refusal ready (key_too_long never counts) = absurd (never (keys_short m places parts old t
+      table write core given noted fits o h read before v ready stands))
   kept_stands read before v refusal ready (not_kept may told_) = ap count told_.1
-  kept_stands read before v refusal ready (not_laid fails) = at fails.fault (bare_fails m table
-      (bare ready.is_free.has_found.has_passed.has_begun.continues) read.store new.store before.way write v fails.fault
-      fails.fails) fails.counts
+  kept_stands read before v refusal ready (not_laid fails) = at fails.fault fails.fails fails.counts
     where
-      at : (fault : SpaceFault) → BareFails m read.store new.store table.pointer.0 before.way v fault
+      at : (fault : SpaceFault) → FailsLay m read.store new.store table before.way write v fault
           → CountsFault fault read.damage new.damage read.shortages new.shortages → new.damage ≡ read.damage
       at (space.Full limit) lay counts = counts.0
       at (space.Damaged it) lay counts = absurd (laid m places parts old t table write core given noted fits o
@@ -134,7 +148,7 @@ module _ {D P : Type 0} (m : Meaning D) (places : Places P) (parts : WriteParts 
       at (space.Pool (faults.DiskWrite n)) lay counts = counts.0
       at (space.Pool (faults.Offline n)) lay counts = counts.0
       at (space.Pool (faults.Absent n)) lay counts =
-          absurd (lay_there m read.store new.store table.pointer.0 before.way v n lay)
+          absurd (lay_there m read.store new.store table before.way write v n lay)
       at (space.Pool faults.Memory) lay counts = counts.0
 
   put_stands : (free : Core D) (wait : Bool) (rec : Option RecId) (refusal : Refusal) → IsFree m old free t table write wait rec

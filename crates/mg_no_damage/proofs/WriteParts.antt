@@ -1,24 +1,22 @@
 -- The laws that a write asks for.
+use Rattle.mg_no_damage.specs.Inventory.{PagesAreTaken}
+use Rattle.mg_entry_ties.specs.Laws.{InsertionsAreLawful, InsertionsMeetNone}
+use Rattle.mg_engine_changes.specs.Starts.{EntriesEnter, RowsEnter, StartsStand}
+use Rattle.mg_core.specs.declared.scanning.Place.{Place}
 use Rattle.mg_engine_changes.specs.Directories.{DirectoriesTell}
 use Rattle.mg_base.specs.Disk.{Meaning}
 use Rattle.mg_engine_steps.specs.AnswersLaws.{NothingAtKeys, ObstaclesAtKeys, RowsAtKeys, SpeakersAreTold}
-use Rattle.mg_engine_steps.specs.Batches.{ReadsLast, RowsLastStill}
-use Rattle.mg_engine_steps.specs.ListShows.{BehindKeepsTips, ListsStay, TipsStayOn}
-use Rattle.mg_engine_steps.specs.Rows.{DeadsGo}
+use Rattle.mg_engine_steps.specs.ListShows.{ListsStay}
 use Rattle.mg_engine_steps.specs.Unasked.{UnaskingLasts}
 use Rattle.mg_engine_changes.specs.Befores.{BeforesAreTold}
 use Rattle.mg_engine_changes.specs.Codes.{StoredRowsAreCoded}
 use Rattle.mg_engine_changes.specs.Kept.{MadeWritesFollow}
 use Rattle.mg_engine_changes.specs.Owners.{SeenMayBeWritten}
-use Rattle.mg_engine_changes.specs.Plain.{WritesKeepPlain}
-use Rattle.mg_engine_changes.specs.Ways.{WaysAreFree}
-use Rattle.mg_image.specs.Form.{packed_coding, packed_form}
-use Rattle.mg_image.specs.ReadingLaws.{RowsAreOne}
-use Rattle.mg_lasting.specs.PoolLaws.{HoldsOne}
+use Rattle.mg_image.specs.Form.{packed_form}
 use Rattle.mg_model.specs.Laws.{OpeningsBegin}
 use Rattle.mg_no_damage.specs.Sound.{SoundRecordsAreLawful, SoundTablesStand}
 use Rattle.mg_no_damage.specs.Batches.{PlacesAreTaken, PlacesHaveRoom, RecordsAreMade, VersionsArePushed, VersionsAreReplaced, VersionsAreTakenOut}
-use Rattle.mg_seek.specs.Readings.{PlacesOfReadings, SpeakersOfReadings}
+use Rattle.mg_seek.specs.Readings.{PlacesOfReadings}
 use Rattle.mg_space.specs.ViewLaws.{CountsNow}
 use Rattle.mg_space.specs.declared.links.FireLinks.{FireLinks}
 use Rattle.mg_waits.specs.Machine.{NobodyWaits, VerdictsAreTheMachines}
@@ -37,21 +35,18 @@ pub record WriteParts {D : Type 0} (m : Meaning D) : Type 0 where
   pub may_write : SeenMayBeWritten
   pub coded : StoredRowsAreCoded
   pub lists : ListsStay
-  pub one : RowsAreOne packed_coding
-  pub on : TipsStayOn
-  pub behind : BehindKeepsTips
-  pub keep_plain : WritesKeepPlain
-  pub ways_free : WaysAreFree
   pub dirs : DirectoriesTell
   pub counts_now : CountsNow m
-  pub holds : HoldsOne D m
   pub unask : UnaskingLasts packed_form D FireLinks m
-  pub last : ReadsLast D FireLinks m packed_form
-  pub still : RowsLastStill D FireLinks m packed_form
-  pub deads : DeadsGo packed_form D FireLinks m
+  -- entries
+  pub starts : StartsStand D Place m
+  pub all : EntriesEnter D Place m
+  pub rows_enter : RowsEnter D Place m
+  pub entries_lawful : InsertionsAreLawful
+  pub entries_none : InsertionsMeetNone
+  pub taken : PagesAreTaken
   -- what is read
   pub places_of : PlacesOfReadings
-  pub speak : SpeakersOfReadings
   pub records : SoundRecordsAreLawful
   pub stand : SoundTablesStand
   -- batches

@@ -4,7 +4,6 @@ use Rattle.mg_base.specs.Disk.{Meaning}
 use Rattle.mg_base.specs.Image.{Image}
 use Rattle.mg_base.specs.declared.damage.Damaged.{Damaged}
 use Rattle.mg_base.specs.declared.transaction.TxState.{TxState}
-use Rattle.mg_base.specs.declared.transaction.TxState.TheVariants.{Active}
 use Rattle.mg_engine_changes.specs.Takings.{KnowsCache}
 use Rattle.mg_engine_changes.specs.TakingSteps.{StandsMidway}
 use Rattle.mg_engine_meaning.specs.Formers.{MayReturn}
@@ -12,6 +11,9 @@ use Rattle.mg_engine_meaning.specs.Standings.{KeepsWritten}
 use Rattle.mg_engine_steps.specs.Standing.{Remembers, ShowsHistory, Standing}
 use Rattle.mg_image.specs.Form.{Pages, packed_form}
 use Rattle.mg_model.specs.Changes.{has_change}
+use Rattle.mg_engine_steps.specs.Midway.{GoesBack}
+use Rattle.mg_model.specs.Legal.{IsLegal, MayBegin}
+use Rattle.mg_model.specs.declared.change.Point.{Point}
 use Rattle.mg_model.specs.History.{Entries, Entry}
 use Rattle.mg_model.specs.Machine.{own}
 use Rattle.mg_model.specs.declared.change.Change.{Change}
@@ -34,8 +36,8 @@ abbrev pub KeysMeetNoDamage : (D : Type 0) → Meaning D → Type 0
 KeysMeetNoDamage D m = (size : ℕ) (o : Opening) (h : Entries) (e : Entry) (t : ℕ) (whole left : List Change)
     (s : Standing) (start before after : Pool D FireLinks) (begun : Pages)
     (first : ShowsHistory packed_form size o h s begun) (i : Image) (asked : Asked) (session : Sessions)
-    → StandsMidway m size o h e t whole left s start before begun first i asked session → Remembers o h s
-    → s.state t ≡ Active → (catalog : ℕ) (works : List Working) → KeepsWritten catalog works s.table
+    → StandsMidway m size o h e t whole left s start before begun first i asked session → (point : Point) → MayBegin o
+    → IsLegal o h → Remembers o h s → GoesBack o h e point s asked t → (catalog : ℕ) (works : List Working) → KeepsWritten catalog works s.table
     → KnowsCache m size s before i → (c : Change) → has_change left c.table c.key ≡ true
     → has_change (own o h t) c.table c.key ≡ true → (table : Table)
     → written_to works t (s.number t c.table) ≡ Some table → (was : Was) → MayReturn table.shape c.key was

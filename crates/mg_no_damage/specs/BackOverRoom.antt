@@ -1,6 +1,7 @@
--- A transaction that is taken back over tables that it has made takes two pages at most for each change of another
--- table, and none for the rows of the catalog.
-use Rattle.std.proofs.Common.{◌≡◌, ◌∙◌, ◌≤◌, ◌+◌, ◌*◌, ◌==◌, ℕ, Bool, true, false, List, [], ◌∷◌, length, Option, Some, None, Ok, Err, refl, sym, ap, subst, arith}
+-- A transaction that is taken back over tables that it has made takes at most as many pages as a row for each change of
+-- another table, and none for the rows of the catalog.
+use Rattle.std.proofs.Common.{◌≡◌, ◌≢◌, ◌∙◌, ◌++◌, ◌≤◌, ◌+◌, ◌*◌, ◌==◌, ℕ, Bool, true, false, List, [], ◌∷◌, length, Option, Some, None, Ok, Err, refl, sym, ap, subst, arith}
+use Rattle.std.proofs.lemmas.Bool.{ne_eqb}
 use Rattle.std.specs.Prelude.{if◌then◌else◌}
 use Rattle.mg_base.specs.Disk.{Meaning}
 use Rattle.mg_base.specs.declared.geometry.Geometry.{Geometry}
@@ -29,7 +30,9 @@ use Rattle.mg_undo.specs.Machine.{going_to}
 use Rattle.mg_undo.specs.Undo.{State as Undo, TakesBack as GivesAll, take_back}
 use Rattle.mg_undo.specs.declared.changes.Change.{Change}
 use Rattle.mg_value.specs.declared.value.Value.{Value}
-use Rattle.mg_no_damage.specs.BackRoom.{all_over, as_rows, begins_other, given_up_store, none_taken, takes_over}
+use Rattle.mg_no_damage.specs.BackRoom.{all_over, as_rows, begins_other, given_then, given_up_store, none_taken, takes_over}
+use Rattle.mg_no_damage.specs.BackTrees.{StandAll}
+use Rattle.mg_no_damage.specs.EntryBacks.{OthersStandBack}
 use Rattle.mg_no_damage.specs.BackSpending.{changes_spend, stopping_takes}
 use Rattle.mg_no_damage.specs.CoreSpending.{IsNoWant, TakesPages}
 use Rattle.mg_no_damage.specs.CoreSpendingLaws.{told_full}
@@ -43,6 +46,23 @@ use Rattle.mg_free_pages.specs.Spending.{SpendsAtMost}
 use Rattle.mg_free_pages.specs.SpendingLaws.{both_spend, more_spent, nothing_spent}
 
 -- ---- what is given
+
+others_on : (page : ℕ) (given rest : List Change)
+    → others_of page (given ++ rest) ≡ others_of page given ++ others_of page rest
+others_on page [] rest = refl
+others_on page (c ∷ given) rest = at (c.table == page) (others_on page given rest)
+  where
+    at : (b : Bool) → others_of page (given ++ rest) ≡ others_of page given ++ others_of page rest
+        → (if b then others_of page (given ++ rest) else c ∷ others_of page (given ++ rest))
+        ≡ (if b then others_of page given else c ∷ others_of page given) ++ others_of page rest
+    at true more = more
+    at false more = ap (λ (cs : List Change). c ∷ cs) more
+
+-- one of another table comes between others
+others_then : (page : ℕ) (given more : List Change) (c : Change) → c.table ≢ page
+    → others_of page (given ++ (c ∷ more)) ≡ others_of page given ++ (c ∷ others_of page more)
+others_then page given more c ne = others_on page given (c ∷ more)
+    ∙ ap (λ (xs : List Change). others_of page given ++ xs) (rw (ne_eqb c.table page ne) refl)
 
 -- At most so many changes are given from a list on, also with the one that is given next.
 pub record GivesFew (start : Undo) (most : ℕ) : Type 0 where
@@ -59,10 +79,6 @@ others_fewer page (c ∷ given) = at (c.table == page) (others_fewer page given)
         → length (if b then others_of page given else c ∷ others_of page given) ≤ length (c ∷ given)
     at true less = omega (arith, less)
     at false less = omega (arith, less)
-
--- twice so many are no more than five times so many
-less_than_rows : (most : ℕ) → 2 * most ≤ 5 * most
-less_than_rows most = omega arith
 
 -- want of memory is no want of pages
 memory_no_want : (refusal : Refusal) → refusal ≡ refusals.Memory → IsNoWant refusal
@@ -104,15 +120,21 @@ module _ {D : Type 0} (m : Meaning D) (knows : KnowsRoom m) where
 
   -- ---- all is taken back
 
+  -- the trees stand at each change of other tables that would be given
+  abbrev OthersStand : Core D → ℕ → Undo → Type 0
+  OthersStand begun t start = (given : List Change) (end : Undo) → GivesAll start given end
+      → StandAll m t begun (others_of begun.catalog.pointer.0 given)
+
   -- first the changes of other tables
-  others_spend : (begun mid : Core D) (t : ℕ) (start end : Undo) (most : ℕ) → GivesFew start most
-      → TakesOthers m begun mid t start end → SpendsAtMost m begun.store mid.store (2 * most)
-  others_spend begun mid t start end most gives it =
+  others_spend : (begun mid : Core D) (t : ℕ) (start end : Undo) (most : ℕ) → OthersStand begun t start → GivesFew start most
+      → TakesOthers m begun mid t start end → SpendsAtMost m begun.store mid.store (pages_of_row * most)
+  others_spend begun mid t start end most stand gives it =
       let few = others_fewer begun.catalog.pointer.0 it.given in
       let all = gives.all it.given end it.steps in
-      more_spent m begun.store mid.store (2 * length (others_of begun.catalog.pointer.0 it.given)) (2 * most)
+      more_spent m begun.store mid.store (pages_of_row * length (others_of begun.catalog.pointer.0 it.given)) (pages_of_row * most)
       (omega (arith, few, all))
-      (changes_spend m knows.holds knows.batches t begun mid (others_of begun.catalog.pointer.0 it.given) it.takes)
+      (changes_spend m knows.holds knows.batches knows.eighteen knows.there t begun mid
+      (others_of begun.catalog.pointer.0 it.given) (stand it.given end it.steps) it.takes)
 
   -- then the rows of the catalog, one after another, by which no page is taken
   rows_spend : (t : ℕ) (keys : List Value) (old new : Core D) → TakesRows m t keys old new
@@ -124,27 +146,32 @@ module _ {D : Type 0} (m : Meaning D) (knows : KnowsRoom m) where
       takes.takes) (rows_spend t keys mid end more)
 
   -- and so all
-  all_spend : (begun taken : Core D) (t : ℕ) (start end : Undo) (keys : List Value) (most : ℕ) → GivesFew start most
-      → TakesBoth m begun taken t start end keys → SpendsAtMost m begun.store taken.store (2 * most)
-  all_spend begun taken t start end keys most gives it =
-      more_spent m begun.store taken.store (2 * most + 0) (2 * most) (omega arith)
-      (both_spend m knows.holds begun.store it.mid.store taken.store (2 * most) 0
-      (others_spend begun it.mid t start end most gives it.others)
+  all_spend : (begun taken : Core D) (t : ℕ) (start end : Undo) (keys : List Value) (most : ℕ) → OthersStand begun t start
+      → GivesFew start most → TakesBoth m begun taken t start end keys → SpendsAtMost m begun.store taken.store (pages_of_row * most)
+  all_spend begun taken t start end keys most stand gives it =
+      more_spent m begun.store taken.store (pages_of_row * most + 0) (pages_of_row * most) (omega arith)
+      (both_spend m knows.holds begun.store it.mid.store taken.store (pages_of_row * most) 0
+      (others_spend begun it.mid t start end most stand gives it.others)
       (rows_spend t keys it.mid taken it.rows))
 
   -- ---- it stops
 
   -- at a change of another table
-  other_stops : (begun stopped : Core D) (t : ℕ) (start : Undo) (refusal : Refusal) (most : ℕ) → GivesFew start most
-      → IsGeometry begun.store.geometry → StopsOthers m begun stopped t start refusal
-      → TakesPages m begun stopped (Some refusal) (2 * most)
-  other_stops begun stopped t start refusal most gives lawful stops =
+  other_stops : (known : KnowsGiven) (begun stopped : Core D) (t : ℕ) (start : Undo) (refusal : Refusal) (most : ℕ)
+      → OthersStand begun t start → GivesFew start most → IsGeometry begun.store.geometry
+      → StopsOthers m begun stopped t start refusal → TakesPages m begun stopped (Some refusal) (pages_of_row * most)
+  other_stops known begun stopped t start refusal most stand gives lawful stops =
       let few = others_fewer begun.catalog.pointer.0 stops.given in
       let all = gives.next stops.given stops.left stops.change stops.steps stops.next in
-      more_pages begun stopped (Some refusal) (2 * (length (others_of begun.catalog.pointer.0 stops.given) + 1))
-      (2 * most) (omega (arith, few, all))
-      (stopping_takes m knows.holds knows.batches t begun stops.at stopped
-      (others_of begun.catalog.pointer.0 stops.given) stops.change refusal lawful stops.takes stops.fails)
+      let (more, (end, then_)) = given_then known start stops.left stops.given stops.change stops.steps stops.next in
+      more_pages begun stopped (Some refusal)
+      (pages_of_row * (length (others_of begun.catalog.pointer.0 stops.given) + 1)) (pages_of_row * most)
+      (omega (arith, few, all))
+      (stopping_takes m knows.holds knows.batches knows.eighteen knows.there t begun stops.at stopped
+      (others_of begun.catalog.pointer.0 stops.given) (others_of begun.catalog.pointer.0 more) stops.change refusal lawful
+      (subst (λ (xs : List Change). StandAll m t begun xs)
+      (others_then begun.catalog.pointer.0 stops.given more stops.change stops.other)
+      (stand (stops.given ++ (stops.change ∷ more)) end then_)) stops.takes stops.fails)
 
   -- at a row
   row_stop : (mid stopped : Core D) (t : ℕ) (key : Value) (refusal : Refusal) → IsGeometry mid.store.geometry
@@ -168,21 +195,22 @@ module _ {D : Type 0} (m : Meaning D) (knows : KnowsRoom m) where
       after_spent begun next end (Some refusal) 0 0 lawful spent
       (rows_stop t refusal keys next end (subst IsGeometry (sym spent.geometry) lawful) more)
 
-  both_stop : (begun stopped : Core D) (t : ℕ) (start : Undo) (keys : List Value) (refusal : Refusal) (most : ℕ)
-      → GivesFew start most → IsGeometry begun.store.geometry → StopsBoth m begun stopped t start keys refusal
-      → TakesPages m begun stopped (Some refusal) (2 * most)
-  both_stop begun stopped t start keys refusal most gives lawful (stops_at_other stops) =
-      other_stops begun stopped t start refusal most gives lawful stops
-  both_stop begun stopped t start keys refusal most gives lawful (stops_at_rows mid end taken fails) =
-      let spent = others_spend begun mid t start end most gives taken in
-      more_pages begun stopped (Some refusal) (2 * most + 0) (2 * most) (omega arith)
-      (after_spent begun mid stopped (Some refusal) (2 * most) 0 lawful spent
+  both_stop : (known : KnowsGiven) (begun stopped : Core D) (t : ℕ) (start : Undo) (keys : List Value)
+      (refusal : Refusal) (most : ℕ) → OthersStand begun t start → GivesFew start most → IsGeometry begun.store.geometry → StopsBoth m begun stopped t start keys refusal
+      → TakesPages m begun stopped (Some refusal) (pages_of_row * most)
+  both_stop known begun stopped t start keys refusal most stand gives lawful (stops_at_other stops) =
+      other_stops known begun stopped t start refusal most stand gives lawful stops
+  both_stop known begun stopped t start keys refusal most stand gives lawful (stops_at_rows mid end taken fails) =
+      let spent = others_spend begun mid t start end most stand gives taken in
+      more_pages begun stopped (Some refusal) (pages_of_row * most + 0) (pages_of_row * most) (omega arith)
+      (after_spent begun mid stopped (Some refusal) (pages_of_row * most) 0 lawful spent
       (rows_stop t refusal keys mid stopped (subst IsGeometry (sym spent.geometry) lawful) fails))
 
 -- ---- to a point
 
 module _ {D : Type 0} (m : Meaning D) (knows : KnowsRoom m) (known : KnowsGiven) (old new : Core D) (t : TxNo)
-    (core : IsCore m old) (o : Opening) (h : Entries) (stands : StandsFor m old o h) (point : Point) where
+    (core : IsCore m old) (o : Opening) (h : Entries) (stands : StandsFor m old o h) (point : Point)
+    (stand : OthersStandBack D m) where
   -- no more are given than the records that are taken back
   few_given : (begun : Core D) (undo : Undo) → HasBegun old begun t.0 undo → MayReach undo point
       → GivesFew (going_to undo point) (records_back t.0 point (steps o h))
@@ -191,20 +219,21 @@ module _ {D : Type 0} (m : Meaning D) (knows : KnowsRoom m) (known : KnowsGiven)
     next = next_few m known old t point undo has_begun.continues has_begun.its reaches o h stands;
   }
 
-  -- two for each of these are fewer than a row takes for each
-  by_twos : (refusal : Option Refusal) → TakesPages m old new refusal (2 * records_back t.0 point (steps o h))
+  -- as many for each of these as a row takes
+  by_rows : (refusal : Option Refusal) → TakesPages m old new refusal (pages_of_row * records_back t.0 point (steps o h))
       → CoreTakes m old new refusal (pages_of_row * records_back t.0 point (steps o h))
-  by_twos refusal it = as_rows m knows known old new t core o h stands point refusal
-      (2 * records_back t.0 point (steps o h)) (less_than_rows (records_back t.0 point (steps o h))) it
+  by_rows refusal it = as_rows m knows known old new t core o h stands point refusal
+      (pages_of_row * records_back t.0 point (steps o h)) (omega arith) it
 
   -- all is taken back that is given, the rows of the catalog last
   over_takes : TakesTablesTo m old new t.0 point
       → CoreTakes m old new None (pages_of_row * records_back t.0 point (steps o h))
-  over_takes back = by_twos None (all_over m old new (not_asking t.0 back.begun) back.takes.taken
+  over_takes back = by_rows None (all_over m old new (not_asking t.0 back.begun) back.takes.taken
       (ap (λ (c : Core D). c.store) back.has_begun.ended.same) (ap (λ (c : Core D). c.store) back.takes.same)
-      (2 * records_back t.0 point (steps o h))
+      (pages_of_row * records_back t.0 point (steps o h))
       (all_spend m knows (not_asking t.0 back.begun) back.takes.taken t.0 (going_to back.undo point) back.takes.end
       back.takes.keys (records_back t.0 point (steps o h))
+      (stand old back.begun t point back.undo core back.has_begun back.reaches o h stands)
       (few_given back.begun back.undo back.has_begun back.reaches) back.takes.takes))
 
   -- it is not: nothing was changed; or some changes were taken back, and the next one not, or the rows not
@@ -222,29 +251,33 @@ module _ {D : Type 0} (m : Meaning D) (knows : KnowsRoom m) (known : KnowsGiven)
       (given_up_store begun new t.0 refusal gives ∙ ap (λ (c : Core D). c.store) has_begun.ended.same)
       (memory_no_want refusal is)
   over_fails refusal (tables_not_taken begun undo has_begun reaches (tables_stopped keys stopped rows stops gives)) =
-      by_twos (Some refusal) (takes_over m old new (not_asking t.0 begun) stopped
+      by_rows (Some refusal) (takes_over m old new (not_asking t.0 begun) stopped
       (ap (λ (c : Core D). c.store) has_begun.ended.same) (given_up_store stopped new t.0 refusal gives) (Some refusal)
-      (2 * records_back t.0 point (steps o h))
-      (both_stop m knows (not_asking t.0 begun) stopped t.0 (going_to undo point) keys refusal
-      (records_back t.0 point (steps o h)) (few_given begun undo has_begun reaches)
+      (pages_of_row * records_back t.0 point (steps o h))
+      (both_stop m knows known (not_asking t.0 begun) stopped t.0 (going_to undo point) keys refusal
+      (records_back t.0 point (steps o h))
+      (stand old begun t point undo core has_begun reaches o h stands)
+      (few_given begun undo has_begun reaches)
       (subst (λ (pool : Pool D FireLinks). IsGeometry pool.geometry)
       (sym (ap (λ (c : Core D). c.store) has_begun.ended.same)) core.geometry) stops))
 
 -- ---- each outcome
 
 -- to the last mark
-pub marks_over_take_few : {D : Type 0} (m : Meaning D) → KnowsRoom m → KnowsGiven → MarksOverTakeFew D m
-marks_over_take_few m knows known old new t (Ok x) core back o h stands told =
-    over_takes m knows known old new t core o h stands LastMark back
-marks_over_take_few m knows known old new t (Err refusal) core fails o h stands told =
-    over_fails m knows known old new t core o h stands LastMark refusal fails
+pub marks_over_take_few : {D : Type 0} (m : Meaning D) → KnowsRoom m → KnowsGiven → OthersStandBack D m
+    → MarksOverTakeFew D m
+marks_over_take_few m knows known stand old new t (Ok x) core back o h stands told =
+    over_takes m knows known old new t core o h stands LastMark stand back
+marks_over_take_few m knows known stand old new t (Err refusal) core fails o h stands told =
+    over_fails m knows known old new t core o h stands LastMark stand refusal fails
 
 -- to the last savepoint of a name
-pub savepoints_over_take_few : {D : Type 0} (m : Meaning D) → KnowsRoom m → KnowsGiven → SavepointsOverTakeFew D m
-savepoints_over_take_few m knows known old new t name (Ok true) core goes o h stands told =
-    over_takes m knows known old new t core o h stands (SavepointNamed name) goes.1
-savepoints_over_take_few {D} m knows known old new t name (Ok false) core goes o h stands told =
+pub savepoints_over_take_few : {D : Type 0} (m : Meaning D) → KnowsRoom m → KnowsGiven → OthersStandBack D m
+    → SavepointsOverTakeFew D m
+savepoints_over_take_few m knows known stand old new t name (Ok true) core goes o h stands told =
+    over_takes m knows known old new t core o h stands (SavepointNamed name) stand goes.1
+savepoints_over_take_few {D} m knows known stand old new t name (Ok false) core goes o h stands told =
     none_taken m knows known old new t core o h stands (SavepointNamed name) None
     (ap (λ (c : Core D). c.store) goes.2) tt
-savepoints_over_take_few m knows known old new t name (Err refusal) core fails o h stands told =
-    over_fails m knows known old new t core o h stands (SavepointNamed name) refusal fails
+savepoints_over_take_few m knows known stand old new t name (Err refusal) core fails o h stands told =
+    over_fails m knows known old new t core o h stands (SavepointNamed name) stand refusal fails

@@ -1,15 +1,15 @@
--- A row is written, or is not: at most four pages are taken.
-use Rattle.std.proofs.Common.{◌≡◌, ◌∙◌, inl, inr, ◌+◌, ℕ, Bool, List, Option, Some, None, Err, is_some, refl, sym, ap, subst, arith}
+-- A row is written, or is not: at most four pages are taken, and eighteen for each index of its table.
+use Rattle.std.proofs.Common.{◌≡◌, ◌∙◌, ◌≤◌, inl, inr, ◌+◌, ◌*◌, ℕ, length, Bool, List, Option, Some, None, Err, is_some, refl, sym, ap, subst, arith}
 use Rattle.mg_base.specs.Disk.{Meaning}
-use Rattle.mg_base.specs.declared.transaction.TxState.TheVariants.{Active}
 use Rattle.mg_base.specs.declared.numbers.RecId.{RecId}
 use Rattle.mg_base.specs.declared.numbers.TxNo.{TxNo}
 use Rattle.mg_base.specs.declared.transaction.TxState.{TxState}
 use Rattle.mg_core.specs.declared.parts.Core.{Core}
-use Rattle.mg_core.specs.Cores.{IsCore, IsRefusedBy}
+use Rattle.mg_core.specs.Cores.{Continues, IsCore, IsRefusedBy}
 use Rattle.mg_core.specs.Obstacles.{HindersBy, IsTold, Stops, StopsAtTable, TellsVerdict, hindered, unread}
 use Rattle.mg_core.specs.Putting.{CountsOne, FailsKept, FailsPut, key_too_long, no_before, no_lay, no_version, not_kept, not_laid, too_long}
 use Rattle.mg_core.specs.Reading.{FailsReading, OnlyReads}
+use Rattle.mg_core.specs.Events.{IsRefused}
 use Rattle.mg_core.specs.Refusing.{IsRefusal}
 use Rattle.mg_core.specs.Writing.{FailsKey, FailsRow, FailsWrite, IsFree, IsWrong, Writes, at_record, at_row, at_table, key_memory, key_null, no_key, not_begun, not_put, only_reads, row_unread, row_wrong}
 use Rattle.mg_engine_changes.specs.Notes.{HasRead}
@@ -43,11 +43,13 @@ use Rattle.mg_space.specs.FreePages.{HasRegions}
 use Rattle.mg_space.specs.FreePages.{HasFree}
 use Rattle.mg_free_pages.specs.FreeLaws.{fewer}
 use Rattle.mg_no_damage.specs.CoreSpending.{IsNoWant, TakesPages}
-use Rattle.mg_row_writes.specs.Bare.{IsBare}
-use Rattle.mg_row_writes.specs.BareLaws.{bare_fails, bare_lays}
-use Rattle.mg_free_pages.specs.RowSpending.{BatchLaws, failed_lay_spends, lay_short, lay_spends}
+use Rattle.mg_free_pages.specs.RowSpending.{BatchLaws}
 use Rattle.mg_free_pages.specs.Spending.{SpendsAtMost, ToldAreHeld}
 use Rattle.mg_free_pages.specs.SpendingLaws.{both_spend, more_spent, nothing_spent, read_spends}
+use Rattle.mg_engine_changes.specs.WriteWays.{ready_of}
+use Rattle.mg_entry_ties.specs.Laws.{InsertionsAreThere, InsertionsTakeEighteen}
+use Rattle.mg_no_damage.specs.EntryRoom.{lay_fails_within, lay_takes}
+use Rattle.mg_no_damage.specs.EntryTrees.{StandsAtStarts, TreesAtStarts}
 
 -- ---- refusals
 
@@ -68,6 +70,18 @@ refused_by offline state refusal is limit full =
     subst (λ (r : Refusal). IsRefusedBy offline state r) full is
 
 module _ {D : Type 0} (m : Meaning D) where
+  -- what takes few pages takes at most more of them
+  pub more_taken : (old new : Core D) (refusal : Option Refusal) (few many : ℕ) → few ≤ many
+      → TakesPages m old new refusal few → TakesPages m old new refusal many
+  more_taken old new refusal few many less it = record {
+    spends = more_spent m old.store new.store few many less it.spends;
+    enough = λ i shows. it.enough i (record {
+      tells = shows.tells;
+      regions = shows.regions;
+      free = fewer old.store.geometry (shown old.store.dirty i) many few less shows.free;
+    });
+  }
+
   -- a reading is never refused so
   pub unread_other : (old new : Core D) (why : Pool D FireLinks → Pages → SpaceFault → Type 0) (refusal : Refusal)
       → FailsReading m old new why refusal → IsNoWant refusal
@@ -109,6 +123,12 @@ module _ {D : Type 0} (m : Meaning D) where
   pub stays_else : (old new : Core D) (refusal : Refusal) → new.store ≡ old.store → IsNoWant refusal
       → ReadsElse old new refusal
   stays_else old new refusal same other = record { spends = nothing_spent m old.store new.store same; other = other }
+
+  -- a call that is refused before it began
+  pub begun_else : (old new : Core D) (t : ℕ) (refusal : Refusal) → IsRefused old new t refusal
+      → ReadsElse old new refusal
+  begun_else old new t refusal is = stays_else old new refusal (ap (λ (c : Core D). c.store) is.wait.same)
+      (refused_by old.store.offline (said old.list t) refusal is.refuses)
 
   pub unread_else : (old new : Core D) (why : Pool D FireLinks → Pages → SpaceFault → Type 0) (refusal : Refusal)
       → FailsReading m old new why refusal → ReadsElse old new refusal
@@ -196,34 +216,6 @@ module _ {D : Type 0} (m : Meaning D) where
           (read_spends m old.store free.store (free_read m counts_now old core t table write free wait rec is).keeps)
           (read_spends m free.store read.store reads.keeps)
 
-      pub write_takes : IsBare table → (new : Core D) → Writes m old new t table write → TakesPages m old new None 4
-      write_takes bare new it = record {
-        spends = both_spend m holds old.store it.puts.read.store new.store 0 4
-            (free_spends it.free it.puts.read it.wait it.rec it.is_free it.puts.has.reads)
-            (lay_spends m holds laws it.puts.read.store new.store table.pointer.0 it.puts.before.way it.puts.version
-            (bare_lays m table bare it.puts.read.store new.store it.puts.before.way write it.puts.version
-            it.puts.laid.lays));
-        enough = λ i shows limit full. absurd cc;
-      }
-
-      kept_takes : IsBare table → (read new : Core D) (before : Before) (v : Version) (refusal : Refusal)
-          → IsGeometry read.store.geometry → FailsKept m read new t.0 table write key before v refusal
-          → TakesPages m read new (Some refusal) 4
-      kept_takes bare read new before v refusal lawful (too_long never counts) =
-          else_takes read new refusal 4 (counted_else read new refusal counts)
-      kept_takes bare read new before v refusal lawful (key_too_long never counts) =
-          else_takes read new refusal 4 (counted_else read new refusal counts)
-      kept_takes bare read new before v refusal lawful (not_kept may told) =
-          else_takes read new refusal 4 (told_else read new refusals.Memory refusal memory_other told)
-      kept_takes bare read new before v refusal lawful (not_laid fails) = record {
-        spends = failed_lay_spends m holds laws read.store new.store table.pointer.0 before.way v fails.fault
-            (bare_fails m table bare read.store new.store before.way write v fails.fault fails.fails);
-        enough = λ i shows limit full.
-            let is = told_full fails.fault refusal limit fails.is (cc full) in
-            lay_short m holds laws read.store new.store table.pointer.0 before.way v fails.fault
-            (bare_fails m table bare read.store new.store before.way write v fails.fault fails.fails) lawful i shows.tells shows.regions shows.free is.0 is.1;
-      }
-
       -- what is taken after pages were only read
       pub after_read : (mid new : Core D) (refusal : Option Refusal) (most : ℕ) → SpendsAtMost m old.store mid.store 0
           → TakesPages m mid new refusal most → TakesPages m old new refusal most
@@ -242,40 +234,78 @@ module _ {D : Type 0} (m : Meaning D) where
             });
       }
 
-      put_takes : IsBare table → (free new : Core D) (wait : Bool) (rec : Option RecId) (refusal : Refusal)
-          → IsFree m old free t table write wait rec → FailsPut m free new t table write key rec refusal
-          → TakesPages m old new (Some refusal) 4
-      put_takes bare free new wait rec refusal is (no_version told) = else_takes old new refusal 4
-          (read_first old free new t.0 refusal (free_read m counts_now old core t table write free wait rec is)
-          (told_else free new refusals.Memory refusal memory_other told))
-      put_takes bare free new wait rec refusal is (no_before fails) = else_takes old new refusal 4
-          (read_first old free new t.0 refusal (free_read m counts_now old core t table write free wait rec is)
-          (unread_else free new _ refusal fails))
-      put_takes bare free new wait rec refusal is (no_lay read before v has fails) =
-          let spent = free_spends free read wait rec is has.reads in
-          after_read read new (Some refusal) 4 spent (kept_takes bare read new before v refusal
-          (subst IsGeometry (sym spent.geometry) core.geometry) fails)
+      -- where the trees of the table stand
+      module _ (eighteen : InsertionsTakeEighteen) (there : InsertionsAreThere) (starts : TreesAtStarts m old t table write)
+        where
+          pub write_takes : (new : Core D) → Writes m old new t table write
+              → TakesPages m old new None (4 + 18 * length table.indexes)
+          write_takes new it = record {
+            spends = more_spent m old.store new.store (0 + (4 + 18 * length table.indexes)) (4 + 18 * length table.indexes)
+                (omega arith) (both_spend m holds old.store it.puts.read.store new.store 0 (4 + 18 * length table.indexes)
+                (free_spends it.free it.puts.read it.wait it.rec it.is_free it.puts.has.reads)
+                (lay_takes m holds laws eighteen there table write it.puts.read.store new.store it.puts.before.way
+                it.puts.version (starts it.puts.read it.puts.before it.puts.version (ready_of m old new t table write it))
+                it.puts.laid.lays));
+            enough = λ i shows limit full. absurd cc;
+          }
 
-      -- who has begun knows of the table that it has no index
-      pub failed_takes : (old.store.offline ≡ None → said old.list t.0 ≡ Active → IsBare table) → (new : Core D)
-          (refusal : Refusal) → FailsWrite m old new t table write refusal → TakesPages m old new (Some refusal) 4
-      failed_takes bare new refusal (not_begun is) = else_takes old new refusal 4 (stays_else old new refusal
-          (ap (λ (c : Core D). c.store) is.wait.same)
-          (refused_by old.store.offline (said old.list t.0) refusal is.refuses))
-      failed_takes bare new refusal (only_reads continues wait may) = else_takes old new refusal 4 (stays_else old new refusal
-          (ap (λ (c : Core D). c.store) wait.same) (λ limit full. let is = may.is in absurd cc))
-      failed_takes bare new refusal (at_table begun wait has stops) = else_takes old new refusal 4
-          (read_first old begun new t.0 refusal (begun_read m counts_now old core t table write begun wait has)
-          (table_else begun new t wait table.name refusal stops))
-      failed_takes bare new refusal (no_key passed wait has fails) = else_takes old new refusal 4
-          (read_first old passed new t.0 refusal (passed_read m counts_now old core t table write passed wait has)
-          (key_else passed new table write refusal fails))
-      failed_takes bare new refusal (at_row passed wait has some fails) = else_takes old new refusal 4
-          (read_first old passed new t.0 refusal (passed_read m counts_now old core t table write passed wait has)
-          (row_else passed new t table key write refusal fails))
-      failed_takes bare new refusal (at_record found wait rec has stops) = else_takes old new refusal 4
-          (read_first old found new t.0 refusal (found_read m counts_now old core t table write found wait rec has)
-          (stops_else found new t.0 wait _ _ refusal stops))
-      failed_takes bare new refusal (not_put free wait rec is fails) =
-          let continues = is.has_found.has_passed.has_begun.continues in
-          put_takes (bare continues.0 continues.1) free new wait rec refusal is fails
+          kept_takes : (read new : Core D) (before : Before) (v : Version) (refusal : Refusal)
+              → StandsAtStarts m read.store table before.way → IsGeometry read.store.geometry
+              → FailsKept m read new t.0 table write key before v refusal
+              → TakesPages m read new (Some refusal) (4 + 18 * length table.indexes)
+          kept_takes read new before v refusal stand lawful (too_long never counts) =
+              else_takes read new refusal (4 + 18 * length table.indexes) (counted_else read new refusal counts)
+          kept_takes read new before v refusal stand lawful (key_too_long never counts) =
+              else_takes read new refusal (4 + 18 * length table.indexes) (counted_else read new refusal counts)
+          kept_takes read new before v refusal stand lawful (not_kept may told) =
+              else_takes read new refusal (4 + 18 * length table.indexes)
+              (told_else read new refusals.Memory refusal memory_other told)
+          kept_takes read new before v refusal stand lawful (not_laid fails) =
+              let within = lay_fails_within m holds laws eighteen there table write read.store new.store before.way v fails.fault
+              stand fails.fails in record {
+                spends = within.spends;
+                enough = λ i shows limit full.
+                    let is = told_full fails.fault refusal limit fails.is (cc full) in
+                    within.short lawful i shows.tells shows.regions shows.free is.0 is.1;
+              }
+
+          put_takes : (free new : Core D) (wait : Bool) (rec : Option RecId) (refusal : Refusal)
+              → IsFree m old free t table write wait rec → FailsPut m free new t table write key rec refusal
+              → TakesPages m old new (Some refusal) (4 + 18 * length table.indexes)
+          put_takes free new wait rec refusal is (no_version told) =
+              else_takes old new refusal (4 + 18 * length table.indexes)
+              (read_first old free new t.0 refusal (free_read m counts_now old core t table write free wait rec is)
+              (told_else free new refusals.Memory refusal memory_other told))
+          put_takes free new wait rec refusal is (no_before fails) =
+              else_takes old new refusal (4 + 18 * length table.indexes)
+              (read_first old free new t.0 refusal (free_read m counts_now old core t table write free wait rec is)
+              (unread_else free new _ refusal fails))
+          put_takes free new wait rec refusal is (no_lay read before v has fails) =
+              let spent = free_spends free read wait rec is has.reads in
+              after_read read new (Some refusal) (4 + 18 * length table.indexes) spent (kept_takes read new before v refusal
+              (starts read before v (record { free = free; wait = wait; rec = rec; is_free = is; has = has }))
+              (subst IsGeometry (sym spent.geometry) core.geometry) fails)
+
+          -- a transaction that goes on knows how many indexes the table has
+          pub failed_takes : (most : ℕ) → (Continues old t.0 → 4 + 18 * length table.indexes ≤ most) → (new : Core D)
+              (refusal : Refusal) → FailsWrite m old new t table write refusal → TakesPages m old new (Some refusal) most
+          failed_takes most less new refusal (not_begun is) =
+              else_takes old new refusal most (begun_else old new t.0 refusal is)
+          failed_takes most less new refusal (only_reads continues wait may) = else_takes old new refusal most
+              (stays_else old new refusal (ap (λ (c : Core D). c.store) wait.same)
+              (λ limit full. let is = may.is in absurd cc))
+          failed_takes most less new refusal (at_table begun wait has stops) = else_takes old new refusal most
+              (read_first old begun new t.0 refusal (begun_read m counts_now old core t table write begun wait has)
+              (table_else begun new t wait table.name refusal stops))
+          failed_takes most less new refusal (no_key passed wait has fails) = else_takes old new refusal most
+              (read_first old passed new t.0 refusal (passed_read m counts_now old core t table write passed wait has)
+              (key_else passed new table write refusal fails))
+          failed_takes most less new refusal (at_row passed wait has some fails) = else_takes old new refusal most
+              (read_first old passed new t.0 refusal (passed_read m counts_now old core t table write passed wait has)
+              (row_else passed new t table key write refusal fails))
+          failed_takes most less new refusal (at_record found wait rec has stops) = else_takes old new refusal most
+              (read_first old found new t.0 refusal (found_read m counts_now old core t table write found wait rec has)
+              (stops_else found new t.0 wait _ _ refusal stops))
+          failed_takes most less new refusal (not_put free wait rec is fails) =
+              more_taken old new (Some refusal) (4 + 18 * length table.indexes) most
+              (less is.has_found.has_passed.has_begun.continues) (put_takes free new wait rec refusal is fails)

@@ -11,6 +11,8 @@ use Rattle.mg_model.specs.declared.refusal.Refusal.{Refusal}
 use Rattle.mg_model.specs.declared.table.Table.{Table}
 use Rattle.mg_records.specs.Keeping.{refusal_in}
 use Rattle.mg_records.specs.Room.{pages_of_begin, pages_of_row, pages_of_table}
+use Rattle.mg_records.specs.Writing.{FitsShape}
+use Rattle.mg_row_writes.specs.Storing.{row_stored}
 use Rattle.mg_records.specs.declared.found.Found.{Found}
 use Rattle.mg_records.specs.declared.write.Write.{Write}
 use Rattle.mg_value.specs.declared.shape.Shape.{Shape}
@@ -108,7 +110,8 @@ PageWritesTakeNone D m = (old new : Core D) (result : Result (Option PageNo) Ref
 -- a row that fits its table, which was given to the transaction, is written
 abbrev pub WritesTakeFew : (D : Type 0) → Meaning D → Type 0
 WritesTakeFew D m = (old new : Core D) (t : TxNo) (table : Table) (write : Write) (result : Result (Unit {0}) Refusal)
-    → IsCore m old → given_to old.works t.0 table.name ≡ Some table
+    → IsCore m old → given_to old.works t.0 table.name ≡ Some table → FitsShape table.shape write
+   
     → MatchResult result (λ _. WritesNoted m old new t table write) (FailsNoted m old new t table write)
     → RoomStands m old new (refusal_in result) pages_of_row
 

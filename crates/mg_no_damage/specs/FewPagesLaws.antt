@@ -7,6 +7,7 @@ use Rattle.mg_core.specs.declared.parts.Core.{Core}
 use Rattle.mg_core.specs.Cores.{IsCore}
 use Rattle.mg_engine_meaning.specs.FreePages.{CoreHasFree}
 use Rattle.mg_space.specs.FreePages.{TellsFree}
+use Rattle.mg_entry_ties.specs.Laws.{InsertionsAreThere, InsertionsTakeEighteen}
 use Rattle.mg_model.specs.declared.refusal.Refusal.{Refusal}
 use Rattle.mg_model.specs.declared.refusal.Refusal.TheVariants.{DatabaseFull}
 use Rattle.mg_pool.specs.Pool.{shown}
@@ -25,6 +26,8 @@ pub record KnowsRoom {D : Type 0} (m : Meaning D) : Type 0 where
   pub holds : ToldAreHeld m
   pub batches : BatchLaws m
   pub counts_now : CountsNow m
+  pub eighteen : InsertionsTakeEighteen
+  pub there : InsertionsAreThere
 
 -- ---- refusals
 

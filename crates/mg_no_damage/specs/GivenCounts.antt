@@ -67,7 +67,7 @@ firsts_count t point all = since_count (has_deed point (deeds_by t all)) point (
     ∙ ap (λ (b : Bool). counted_if b point (deeds_by t all)) (deed_told t point all)
 
 -- the one that is given next comes first of all that would be given
-next_first : (left end : Undo) (given : List Kept) (change : Kept) → (take_back left).given ≡ Some change
+pub next_first : (left end : Undo) (given : List Kept) (change : Kept) → (take_back left).given ≡ Some change
     → GivesAll left given end → (more : List Kept) × (given ≡ change ∷ more)
 next_first left end given change next (ends none after) = let both : None ≡ Some change = sym none ∙ next in absurd cc
 next_first left end given change next (gives {given = rest} c some more) =

@@ -5,6 +5,7 @@ pub mod BackRoom
 pub mod BackRows
 pub mod BackSpending
 pub mod BackTables
+pub mod BackTrees
 pub mod Backs
 pub mod BatchOrders
 pub mod Batches
@@ -22,6 +23,10 @@ pub mod CreationTables
 pub mod Creations
 pub mod Draws
 pub mod EmptyPages
+pub mod EntryBacks
+pub mod EntryCalls
+pub mod EntryRoom
+pub mod EntryTrees
 pub mod EventRoom
 pub mod FewPages
 pub mod FewPagesCalls

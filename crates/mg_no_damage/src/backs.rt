@@ -4,14 +4,16 @@ ghost use Rattle.mg_no_damage.specs.Backs.{MarksMeetNoDamage, SavepointsMeetNoDa
 ghost use Rattle.mg_no_damage.specs.BackKeys.{KeysMeetNoDamage, KeysMissNoPage};
 ghost use Rattle.mg_no_damage.specs.BackRows.{RowsMeetNoDamage};
 ghost use Rattle.mg_no_damage.specs.BackTables.{MarksOverMeetNoDamage, SavepointsOverMeetNoDamage};
+ghost use Rattle.mg_no_damage.specs.EntryBacks.{AllStandBack, OthersStandBack};
 
 use crate::{
-    keys_are_read, lawful_records_are_read, lawful_tables_are_read, records_change,
-    sound_images_are_lawful, versions_go_out,
+    keys_are_read, lawful_records_are_read, lawful_tables_are_read, pages_are_taken,
+    records_change, sound_images_are_lawful, versions_go_out,
 };
 use mg_base::Disk;
-use mg_engine_changes::{backs_are_known, kept_tables_stand, rows_are_given};
+use mg_engine_changes::{backs_are_known, kept_tables_stand, keys_enter_midway, rows_are_given};
 use mg_engine_steps::rows_go_on;
+use mg_entry_ties::insertions_meet_none;
 use mg_seek::{keys_are_those_of_the_history, records_are_those_of_every_reading};
 use mg_space::FireLinks;
 
@@ -27,6 +29,9 @@ pub fn keys_meet_no_damage<D: Disk>()
     lawful_tables_are_read::<D>();
     keys_are_read::<D>();
     records_change::<D>();
+    keys_enter_midway::<D>();
+    insertions_meet_none();
+    pages_are_taken();
 }
 
 /// A transaction is taken back to a point, where no table goes.
@@ -61,4 +66,18 @@ pub fn backs_over_meet_no_damage<D: Disk>()
     rows_go_on::<D, FireLinks>();
     keys_meet_no_damage::<D>();
     rows_meet_no_damage::<D>();
+}
+
+/// The trees of a table stand at each change of it that a transaction takes back to a point, before entries of what comes
+/// back are laid.
+pub fn trees_stand_back<D: Disk>()
+    ensures all { AllStandBack D D.meaning }
+    ensures others { OthersStandBack D D.meaning }
+{
+    backs_are_known::<D, u32>();
+    rows_are_given();
+    rows_go_on::<D, FireLinks>();
+    keys_meet_no_damage::<D>();
+    rows_meet_no_damage::<D>();
+    keys_enter_midway::<D>();
 }

@@ -3,19 +3,18 @@
 ghost use Rattle.mg_no_damage.specs.Calls.{AsksMeetNone, BeginsMeetNone, CommitsMeetNone, LooksMeetNone, PageWritesMeetNone, PointsMeetNone, RollbacksMeetNone, StepsMeetNone, WaitsMeetNone, WritesMeetNone};
 
 use crate::{
-    numbers_are_drawn, reads_meet_no_damage, records_are_made, records_change, rows_are_keyed,
-    sound_images_are_lawful, writes_have_keys,
+    numbers_are_drawn, pages_are_taken, reads_meet_no_damage, records_are_made, records_change,
+    rows_are_keyed, sound_images_are_lawful, writes_have_keys,
 };
 use mg_base::Disk;
+use mg_core::Place;
 use mg_engine_changes::{
-    befores_are_told, made_writes_follow, noted_tables_are_quiet, seen_may_be_written,
-    stored_rows_are_coded, ways_are_free, writes_keep_plain,
+    befores_are_told, first_batches_stay, made_writes_follow, noted_tables_are_quiet,
+    seen_may_be_written, stored_rows_are_coded,
 };
-use mg_engine_steps::{
-    batches_last, deads_go, keys_are_answered, lists_go_on, tips_stay, unasking_lasts,
-};
+use mg_engine_steps::{keys_are_answered, lists_go_on, unasking_lasts};
+use mg_entry_ties::insertions_meet_none;
 use mg_heap::tables_of_layouts_are_walked;
-use mg_image::one_reading;
 use mg_image_overlays::sound_images_stand_one_way;
 use mg_model::histories_go_on;
 use mg_seek::records_are_those_of_every_reading;
@@ -57,17 +56,11 @@ pub fn writes_meet_no_damage<D: Disk>()
     made_writes_follow();
     seen_may_be_written();
     stored_rows_are_coded();
-    writes_keep_plain();
-    ways_are_free();
     sound_images_stand_one_way();
     tables_of_layouts_are_walked();
     noted_tables_are_quiet::<D>();
-    one_reading();
-    tips_stay();
     lists_go_on::<D, FireLinks>();
-    batches_last::<D, FireLinks>();
     unasking_lasts::<D, FireLinks>();
-    deads_go::<D, FireLinks>();
     records_are_those_of_every_reading();
     sound_images_are_lawful();
     rows_are_keyed();
@@ -75,4 +68,7 @@ pub fn writes_meet_no_damage<D: Disk>()
     writes_have_keys::<D>();
     records_are_made::<D>();
     records_change::<D>();
+    first_batches_stay::<D, Place>();
+    insertions_meet_none();
+    pages_are_taken();
 }

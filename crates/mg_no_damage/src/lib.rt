@@ -139,6 +139,7 @@ mod writes;
 
 pub use backs::{
     backs_meet_no_damage, backs_over_meet_no_damage, keys_meet_no_damage, rows_meet_no_damage,
+    trees_stand_back,
 };
 pub use cores::{reads_meet_no_damage, writes_have_keys};
 pub use engines::{

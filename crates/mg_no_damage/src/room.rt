@@ -5,9 +5,11 @@ ghost use Rattle.mg_no_damage.specs.FewPagesCalls.{AsksTakeNone, BeginsTakeFew, 
 ghost use Rattle.mg_no_damage.specs.FewPagesLaws.{KnowsRoom};
 ghost use Rattle.mg_no_damage.specs.GivenCounts.{KnowsGiven};
 
-use crate::{creations_grow_few, pages_are_taken};
+use crate::{creations_grow_few, pages_are_taken, trees_stand_back};
 use mg_base::Disk;
-use mg_engine_changes::keys_are_taken;
+use mg_core::Place;
+use mg_engine_changes::{first_batches_stay, keys_are_taken, noted_tables_are_quiet};
+use mg_entry_ties::{insertions_meet_none, insertions_take_few};
 use mg_model::histories_go_on;
 use mg_taking_back::steps_come_to_an_end;
 use mg_undo::{the_list_follows_the_machine, what_was_is_given};
@@ -17,6 +19,8 @@ pub fn room_is_known<D: Disk>()
     ensures { KnowsRoom D.meaning }
 {
     pages_are_taken();
+    insertions_take_few();
+    insertions_meet_none();
 }
 
 /// A transaction that begins takes two pages at most, and where so many are free it is not refused for want of pages.
@@ -52,11 +56,14 @@ pub fn commits_take_none<D: Disk>()
     histories_go_on();
 }
 
-/// A row that is written takes five pages at most, and where so many are free it is not refused for want of pages.
+/// A row that is written takes five pages at most, and twenty for each index of its table; where so many are free it is
+/// not refused for want of pages.
 pub fn writes_take_few<D: Disk>()
     ensures { WritesTakeFew D D.meaning }
 {
     room_is_known::<D>();
+    noted_tables_are_quiet::<D>();
+    first_batches_stay::<D, Place>();
 }
 
 /// What is given as a transaction is taken back is counted by its history.
@@ -77,6 +84,7 @@ pub fn backs_take_few<D: Disk>()
 {
     room_is_known::<D>();
     counts_are_known();
+    trees_stand_back::<D>();
 }
 
 /// A transaction that is taken back to a point over tables that it has made takes five pages at most for each record
@@ -87,6 +95,7 @@ pub fn backs_over_take_few<D: Disk>()
 {
     room_is_known::<D>();
     counts_are_known();
+    trees_stand_back::<D>();
 }
 
 /// A table with c columns takes 4 + 5 * (c + 1) pages at most as it is made, and where so many are free it is not

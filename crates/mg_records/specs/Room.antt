@@ -25,12 +25,19 @@ TakesFew m old new refusal most = (o : Opening) (h : Entries) → m.stands old o
 
 -- ---- how many that is
 
--- a transaction begins; a row is written; a table with so many columns is made
+-- a transaction begins
 abbrev pub pages_of_begin : ℕ
 pages_of_begin = 2
 
+-- no table has an index yet
+abbrev pub most_indexes : ℕ
+most_indexes = 0
+
+-- a row is written, and an entry in each index of its table
 abbrev pub pages_of_row : ℕ
-pages_of_row = 5
+pages_of_row = 5 + 20 * most_indexes
+
+-- a table with so many columns is made; the tables of the catalog have no index
 
 abbrev pub pages_of_table : ℕ → ℕ
 pages_of_table columns = 4 + 5 * (columns + 1)

@@ -24,7 +24,7 @@ has_some : (indexes : List Index) (index : Index) (later : List Index) → index
 has_some [] index later is = absurd cc
 has_some (x ∷ xs) index later is = absurd cc
 
-all_of_none : {D : Type 0} (m : Meaning D) (indexes : List Index) (p : RecId) (row : Row) (before after : Pool D FireLinks)
+pub all_of_none : {D : Type 0} (m : Meaning D) (indexes : List Index) (p : RecId) (row : Row) (before after : Pool D FireLinks)
     → LaysAll m indexes p row before after → indexes ≡ [] → after ≡ before
 all_of_none m indexes p row before after (no_index p_ row_ store) is = refl
 all_of_none m indexes p row before after (one_more first index p_ row_ before_ mid after_ laid lays) is =
@@ -62,13 +62,13 @@ module _ {D : Type 0} (m : Meaning D) (table : Table) (bare : IsBare table) wher
   bare_over before after rec write v it = subst (λ (s : Pool D FireLinks). PushesOver m s after rec v)
       (bare_enters before it.entered rec write it.enters) it.lays
 
-  bare_own : (before after : Pool D FireLinks) (rec : RecId) (write : Write) (v : Version)
+  pub bare_own : (before after : Pool D FireLinks) (rec : RecId) (write : Write) (v : Version)
       → EntersOwn m before after table rec write v → ReplacesNewest m before after rec v
   bare_own before after rec write v it = subst (λ (s : Pool D FireLinks). ReplacesNewest m s after rec v)
       (bare_enters before it.entered rec write it.enters) it.lays
 
   -- where entries come first and fail, there were some
-  bare_then : (before after : Pool D FireLinks) (rec : RecId) (write : Write)
+  pub bare_then : (before after : Pool D FireLinks) (rec : RecId) (write : Write)
       (fails : Pool D FireLinks → SpaceFault → Type 0) (fault : SpaceFault)
       → FailsThen m before after table rec write fails fault → fails before fault
   bare_then before after rec write fails fault (not_entered it) = absurd (bare_enters_not before after rec write fault it)

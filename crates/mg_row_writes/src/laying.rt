@@ -172,8 +172,13 @@ fn enter_over<D: Disk>(
     push_over(store, rec, v)
 }
 
-/// Lays the entries, and replaces a transaction's own newest version of a record.
-fn enter_own<D: Disk>(
+/// Lays the entries of a write's row for a record, and replaces the transaction's own newest version there, each in a
+/// batch of its own.
+///
+/// # Errors
+///
+/// As those batches. Entries that were laid stay.
+pub fn enter_own<D: Disk>(
     store: &mut Store<D>,
     table: &Table,
     rec: RecId,

@@ -50,7 +50,7 @@ others_without number (d ∷ given) c same = at (d.table == number) (others_with
 puts_online : {D : Type 0} (m : Meaning D) (before after : Pool D FireLinks) (t : ℕ) (table : Table) (rec : RecId)
     (write : Option Write) → PutsBack m before after t table rec write → after.offline ≡ None
 puts_online m before after t table rec None puts = puts.changed.online.1
-puts_online m before after t table rec (Some write) puts = puts.replaces.changed.online.1
+puts_online m before after t table rec (Some write) puts = puts.enters.lays.changed.online.1
 
 change_online : {D : Type 0} (m : Meaning D) (old new : Core D) (t : ℕ) (c : Change) → TakesChange m old new t c
     → new.store.offline ≡ None

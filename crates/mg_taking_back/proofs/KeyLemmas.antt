@@ -11,7 +11,7 @@ use Rattle.mg_pool.specs.Pool.{shown}
 use Rattle.mg_pool.specs.declared.pool.Pool.{Pool}
 use Rattle.mg_records.specs.Writing.{FitsShape}
 use Rattle.mg_records.specs.declared.write.Write.{Write}
-use Rattle.mg_row_writes.specs.Changing.{FailsReplacing, ReplacesNewest}
+use Rattle.mg_row_writes.specs.Laying.{EntersOwn, FailsEnterOwn, KeysMayBeLaid}
 use Rattle.mg_row_writes.specs.Storing.{IsStored, MayBeStored}
 use Rattle.mg_snap.specs.Live.{State}
 use Rattle.mg_space.specs.View.{KeepsStore, Tells}
@@ -23,16 +23,25 @@ use Rattle.mg_version.specs.declared.cell.Version.{Version}
 use Rattle.mg_taking_back.specs.Formers.{MayComeBack}
 use Rattle.mg_taking_back.specs.Keys.{FailsKey, FailsPuttingBack, FailsReplacingBy, IsOwnAt, PutsBack, ReplacesBy, TakesKey, former, former_not_put, key_not_put}
 
--- the version of a write was put in place, or not
+-- the version of a write was put in place, after the entries of its row, or not
 pub replaced_by : {D : Type 0} (m : Meaning D) (before after : Pool D FireLinks) (t : ℕ) (table : Table) (rec : RecId)
     (write : Write) (v : Version) (result : Result (Unit {0}) SpaceFault) → FitsShape table.shape write
     → IsStored table t write v → MayBeStored before.geometry.size table.pointer.0 v
-    → MatchResult result (λ _. ReplacesNewest m before after rec v) (FailsReplacing m before after rec v)
+    → KeysMayBeLaid before.geometry.size table write
+    → MatchResult result (λ _. EntersOwn m before after table rec write v)
+    (FailsEnterOwn m before after table rec write v)
     → MatchResult result (λ _. ReplacesBy m before after t table rec write)
     (FailsReplacingBy m before after t table rec write)
-replaced_by m before after t table rec write v (Ok x) fits stored may given =
-    record { version = v; fits = fits; stored = stored; may = may; replaces = given }
-replaced_by m before after t table rec write v (Err fault) fits stored may given = former_not_put v stored may given
+replaced_by m before after t table rec write v (Ok x) fits stored may short given = record {
+  version = v;
+  fits = fits;
+  stored = stored;
+  may = may;
+  short = short;
+  enters = given;
+}
+replaced_by m before after t table rec write v (Err fault) fits stored may short given =
+    former_not_put v stored may short given
 
 -- the record was read, and then what was came back, or not
 pub key_comes : {D : Type 0} (m : Meaning D) (before ready after : Pool D FireLinks) (state : ℕ → TxState)

@@ -16,7 +16,8 @@ use Rattle.mg_records.specs.Writing.{FitsShape}
 use Rattle.mg_records.specs.declared.write.Write.{Write}
 use Rattle.mg_records.specs.declared.write.Write.TheVariants as writes
 use Rattle.mg_batches.specs.Batches.{not_lawful}
-use Rattle.mg_row_writes.specs.Changing.{FailsReplacing, FailsTakingOut, ReplacesNewest, TakesNewestOut}
+use Rattle.mg_row_writes.specs.Changing.{FailsTakingOut, TakesNewestOut}
+use Rattle.mg_row_writes.specs.Laying.{EntersOwn, FailsEnterOwn, KeysMayBeLaid}
 use Rattle.mg_row_writes.specs.Storing.{IsStored, MayBeStored}
 use Rattle.mg_seek.specs.Speaking.{IsSpeaker, RefusesTableRows}
 use Rattle.mg_seek.specs.Versions.{IsFirst, wants}
@@ -76,17 +77,18 @@ IsNoChange (writes.Insert row) = Unit {0}
 IsNoChange (writes.Change key row) = ⊥
 IsNoChange (writes.Erase key) = Unit {0}
 
--- The version of a write is put in place of the transaction's own newest one.
+-- The version of a write is put in place of the transaction's own newest one, after the entries of its row.
 pub record ReplacesBy {D : Type 0} (m : Meaning D) (before after : Pool D FireLinks) (t : ℕ) (table : Table)
     (rec : RecId) (write : Write) : Type 0 where
   pub version : Version
   pub fits : FitsShape table.shape write
   pub stored : IsStored table t write version
   pub may : MayBeStored before.geometry.size table.pointer.0 version
-  pub replaces : ReplacesNewest m before after rec version
+  pub short : KeysMayBeLaid before.geometry.size table write
+  pub enters : EntersOwn m before after table rec write version
 
--- Why it is not: the row does not fit the table or a page, which no lawful engine meets; memory is wanting; or the pages
--- are refused.
+-- Why it is not: the row does not fit the table or a page, or a key of it an index, which no lawful engine meets; memory
+-- is wanting; or the pages are refused.
 pub data FailsReplacingBy {D : Type 0} (m : Meaning D) (before after : Pool D FireLinks) (t : ℕ) (table : Table)
     (rec : RecId) (write : Write) (fault : SpaceFault) : Type 0 where
   former_unfit : (FitsShape table.shape write → ⊥) → fault ≡ faults.Damaged not_lawful → after ≡ before
@@ -96,8 +98,11 @@ pub data FailsReplacingBy {D : Type 0} (m : Meaning D) (before after : Pool D Fi
   former_long : (v : Version) → IsStored table t write v
       → (MayBeStored before.geometry.size table.pointer.0 v → ⊥) → fault ≡ faults.Damaged not_lawful
       → after ≡ before → FailsReplacingBy m before after t table rec write fault
+  former_key_long : (KeysMayBeLaid before.geometry.size table write → ⊥) → fault ≡ faults.Damaged not_lawful
+      → after ≡ before → FailsReplacingBy m before after t table rec write fault
   former_not_put : (v : Version) → IsStored table t write v → MayBeStored before.geometry.size table.pointer.0 v
-      → FailsReplacing m before after rec v fault → FailsReplacingBy m before after t table rec write fault
+      → KeysMayBeLaid before.geometry.size table write → FailsEnterOwn m before after table rec write v fault
+      → FailsReplacingBy m before after t table rec write fault
 
 -- the transaction's own newest version is taken out, or that of a write is put in its place
 abbrev pub PutsBack : {D : Type 0} → Meaning D → Pool D FireLinks → Pool D FireLinks → ℕ → Table → RecId

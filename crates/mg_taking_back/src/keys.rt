@@ -22,7 +22,7 @@ use mg_chain::States;
 use mg_model::Table;
 use mg_pool::{Batch, PoolFault};
 use mg_records::Write;
-use mg_row_writes::{may_be_stored, replace_newest, stored_version, take_newest_out};
+use mg_row_writes::{enter_own, keys_may_be_laid, may_be_stored, stored_version, take_newest_out};
 use mg_seek::{Placed, Wanted, first_version, speaker};
 use mg_snap::Live;
 use mg_space::{SpaceFault, Store};
@@ -174,12 +174,13 @@ fn former(key: Key, was: Was) -> Option<Write>
     }
 }
 
-/// Puts the version of a write in place of the transaction's own newest one of a record.
+/// Puts the version of a write in place of the transaction's own newest one of a record, after the entries of its row:
+/// those that it had may be gone since.
 ///
 /// # Errors
 ///
-/// `Memory`; `Damaged` by `unlawful` where the row does not fit the table or a page, which no lawful engine meets; as
-/// `replace_newest`.
+/// `Memory`; `Damaged` by `unlawful` where the row does not fit the table or a page, or a key of it an index, which no
+/// lawful engine meets; as `enter_own`. Entries that were laid stay.
 fn replace_by<D: Disk>(
     store: &mut Store<D>,
     table: &Table,
@@ -203,10 +204,18 @@ fn replace_by<D: Disk>(
         Ok(version) => version,
         Err(_) => return Err(SpaceFault::Pool(PoolFault::Memory)),
     };
-    if !may_be_stored(store.geometry().size, table.pointer, &version) {
+    let size = store.geometry().size;
+    if !may_be_stored(size, table.pointer, &version) {
         return Err(SpaceFault::Damaged(unlawful()));
     }
-    replace_newest(store, rec, &version)
+    let short = match keys_may_be_laid(store.alloc(), size, table, write) {
+        Ok(short) => short,
+        Err(_) => return Err(SpaceFault::Pool(PoolFault::Memory)),
+    };
+    if !short {
+        return Err(SpaceFault::Damaged(unlawful()));
+    }
+    enter_own(store, table, rec, write, &version)
 }
 
 /// Takes the transaction's own newest version of a record out, or puts that of a write in its place.

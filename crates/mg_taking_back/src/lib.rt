@@ -6,7 +6,8 @@
 //!
 //! A key is taken back so: its table is found by its first page, then the record that speaks for the key. There the
 //! transaction's own newest version is taken out where it had not changed the key before, and else replaced by the
-//! row or the deletion that was, once it is tested that the row has the key. The loop goes over a copy of what there
+//! row or the deletion that was, once it is tested that the row has the key; the entries of the row are laid before, since
+//! those that it had may be gone. The loop goes over a copy of what there
 //! is to take back. So a page write that fails leaves in memory all as it was: nothing more is undone after it. Any
 //! other refusal in the middle rolls the transaction back.
 //!

@@ -17,7 +17,8 @@
 ghost use Rattle.mg_engine_changes.specs.Befores.{BeforesAreTold};
 ghost use Rattle.mg_engine_changes.specs.Codes.{StoredRowsAreCoded};
 ghost use Rattle.mg_engine_changes.specs.Kept.{MadeWritesFollow};
-ghost use Rattle.mg_engine_changes.specs.Laid.{DeadsStay, NewRowsGoOn, OverDeadRowsGoOn, PlacesStay, PushedRowsGoOn, ReadyStays, ReplacedRowsGoOn};
+ghost use Rattle.mg_engine_changes.specs.Laid.{DeadsStay, EntriesStayOver, NewRowsGoOn, OverDeadRowsGoOn, PlacesStay, PushedRowsGoOn, ReadyStays, ReplacedRowsGoOn};
+ghost use Rattle.mg_engine_changes.specs.Starts.{EntriesEnter, RowsEnter, StartsStand};
 ghost use Rattle.mg_engine_changes.specs.Made.{MadeRowsGive};
 ghost use Rattle.mg_engine_changes.specs.Owners.{SeenMayBeWritten};
 ghost use Rattle.mg_engine_changes.specs.Plain.{WritesKeepPlain};
@@ -33,6 +34,7 @@ use mg_engine_steps::{
     pushes_go_on, records_are_free, replacements_go_on, standings_go_on, tips_stay, unasking_lasts,
     writes_go_on,
 };
+use mg_entry_steps::entries_stay;
 use mg_grown_catalogs::catalogs_grow;
 use mg_heap::tables_of_layouts_are_walked;
 use mg_image::one_reading;
@@ -155,6 +157,7 @@ pub fn rows_go_on<D: Disk, P>()
     sound_images_stand_one_way();
     tables_of_layouts_are_walked();
     records_are_those_of_every_reading();
+    entries_stay::<D>();
 }
 
 /// A row that is the first version of a record: the engine goes on with the event.
@@ -183,6 +186,7 @@ pub fn new_rows_go_on<D: Disk, P>()
     sound_images_stand_one_way();
     tables_of_layouts_are_walked();
     records_are_those_of_every_reading();
+    entries_stay::<D>();
 }
 
 /// A row that was pushed where a dead transaction's version was taken out: the engine goes on with the event.
@@ -211,14 +215,19 @@ pub fn over_dead_rows_go_on<D: Disk, P>()
     deads_go::<D, FireLinks>();
     sound_images_stand_one_way();
     tables_of_layouts_are_walked();
+    entries_stay::<D>();
 }
 
 /// The first batch of a version that takes two: a place is taken, or a dead transaction's version is taken out. Before it
 /// pages were only read.
 pub fn first_batches_stay<D: Disk, P>()
     ensures reads { ReadyStays D P D.meaning }
+    ensures entries { EntriesStayOver D P D.meaning }
     ensures places { PlacesStay D P D.meaning }
     ensures deads { DeadsStay D P D.meaning }
+    ensures starts { StartsStand D P D.meaning }
+    ensures all { EntriesEnter D P D.meaning }
+    ensures rows { RowsEnter D P D.meaning }
 {
     keys_are_answered();
     histories_go_on();
@@ -242,6 +251,7 @@ pub fn first_batches_stay<D: Disk, P>()
     deads_go::<D, FireLinks>();
     sound_images_stand_one_way();
     tables_of_layouts_are_walked();
+    entries_stay::<D>();
 }
 
 /// A row that is written gives its event.

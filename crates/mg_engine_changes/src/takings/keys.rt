@@ -8,10 +8,12 @@
 //!   where the one that was being taken back then counts as dead (`GivenUpWalksGoOn`). Another one takes no version of an
 //!   active one: so of a record whose newest version is taken out or replaced it is shown what it was shown.
 //! - `specs/BackLists`: the pages of transactions stay, and tables stay plain (`KeysKeepLists`).
+//! - `specs/BackEntries`: the entries of a row that comes back are laid, in some indexes of its table: no key more is taken
+//!   back, the records are as they were, and the row is found there (`EntersMidway`).
 //! - `specs/KeySteps`: what the core reads and changes for a key (a record that speaks for it, whose newest version is
 //!   the transaction's own, and its version taken out, or the former one put in its place, in a batch of its own) is a
-//!   step of `takings` (`KeyStepsAreTaken`). That the table may be written into, and that the stored row codes
-//!   the former one, it takes as known.
+//!   step of `takings` (`KeyStepsAreTaken`). That the table may be written into, that the stored row codes the former
+//!   one, and that it has its entries, it takes as known.
 //! - `specs/Written`: a table which a transaction has kept as one that it has written into stands on the pages
 //!   (`KeptTablesStand`), and the one that is kept under the number by which the transaction knows a table that it has
 //!   changed has its name (`KeptTablesAreNamed`). Tables with one first page are one.
@@ -42,6 +44,7 @@ use mg_engine_steps::{
     batches_last, changes_are_taken_back, page_writes_go_on, pages_show_what_is_taken_back,
     standings_go_on, tables_keep_pages, tips_stay,
 };
+use mg_entry_steps::entries_stay_midway;
 use mg_image::one_reading;
 use mg_image_overlays::{names_tell_tables, sound_images_stand_one_way};
 use mg_lasting::{crashes_hold, pools_last};
@@ -88,6 +91,7 @@ pub fn keys_keep_lists<D: Disk, L: Links>()
     tips_stay();
     writes_keep_tips();
     writes_keep_plain();
+    entries_stay_midway::<D, L>();
     batches_last::<D, L>();
     changes_are_taken_back::<D, L>();
     keys_go_on::<D, L>();
@@ -99,6 +103,7 @@ pub fn keys_keep_pages<D: Disk, L: Links>()
 {
     one_reading();
     sound_images_stand_one_way();
+    entries_stay_midway::<D, L>();
     batches_last::<D, L>();
     changes_are_taken_back::<D, L>();
     keys_go_on::<D, L>();

@@ -4,8 +4,8 @@ ghost use Rattle.mg_engine_changes.specs.Known.{KnownOfBacks};
 ghost use Rattle.mg_engine_changes.specs.Outcomes.{MarksGive, SavepointsGive, ShortMarksGive, ShortSavepointsGive};
 
 use crate::{
-    cores_take_all, engines_go_back_to, keys_are_taken, keys_keep_lists, keys_keep_pages,
-    others_walk_on, stops_go_on, undo_lists_give_keys,
+    cores_enter_some, cores_take_all, engines_go_back_to, keys_are_taken, keys_keep_lists,
+    keys_keep_pages, others_walk_on, stops_go_on, undo_lists_give_keys,
 };
 use mg_base::Disk;
 use mg_engine_meaning::rollbacks_go;
@@ -36,6 +36,7 @@ pub fn backs_are_known<D: Disk, P>()
     pages_show_what_is_taken_back();
     undo_lists_give_keys();
     cores_take_all::<D>();
+    cores_enter_some::<D>();
     keys_keep_lists::<D, FireLinks>();
     keys_keep_pages::<D, FireLinks>();
     stops_go_on::<D, FireLinks>();

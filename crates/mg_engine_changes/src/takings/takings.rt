@@ -1,8 +1,9 @@
 //! A transaction is taken back, key by key. The functions do nothing: their contracts are the laws.
 
+ghost use Rattle.mg_engine_changes.specs.BackEntries.{KeysEnterMidway};
 ghost use Rattle.mg_engine_changes.specs.EngineBacks.{EnginesGoBackTo, OthersWalkOnBack};
 ghost use Rattle.mg_engine_changes.specs.Given.{UndoListsGiveKeys};
-ghost use Rattle.mg_engine_changes.specs.Keys.{CoresTakeAll};
+ghost use Rattle.mg_engine_changes.specs.Keys.{CoresEnterSome, CoresTakeAll};
 ghost use Rattle.mg_engine_changes.specs.Takings.{CoresTakeKeys};
 
 use crate::row_writes::stored_rows_are_coded;
@@ -13,8 +14,11 @@ use crate::{
 };
 use mg_base::Disk;
 use mg_engine_steps::{
-    changes_are_taken_back, lists_go_on, pages_show_what_is_taken_back, unasking_lasts,
+    batches_last, changes_are_taken_back, lists_go_on, pages_show_what_is_taken_back,
+    unasking_lasts,
 };
+use mg_entry_steps::entries_stay_midway;
+use mg_image::one_reading;
 use mg_image_overlays::sound_images_stand_one_way;
 use mg_model::histories_go_on;
 use mg_space::FireLinks;
@@ -24,6 +28,10 @@ use mg_undo::what_was_is_given;
 pub fn cores_take_keys<D: Disk>()
     ensures { CoresTakeKeys D D.meaning }
 {
+    one_reading();
+    sound_images_stand_one_way();
+    batches_last::<D, FireLinks>();
+    entries_stay_midway::<D, FireLinks>();
     stored_rows_are_coded();
     its_records_are_found();
     its_tables_may_be_written();
@@ -39,6 +47,30 @@ pub fn cores_take_all<D: Disk>()
     keys_are_taken();
     keys_go_on::<D, FireLinks>();
     keys_keep_lists::<D, FireLinks>();
+}
+
+/// The same keys are taken back once entries of a row were laid, of the table of a further change.
+pub fn cores_enter_some<D: Disk>()
+    ensures { CoresEnterSome D D.meaning }
+{
+    one_reading();
+    sound_images_stand_one_way();
+    batches_last::<D, FireLinks>();
+    entries_stay_midway::<D, FireLinks>();
+    its_records_are_found();
+    its_tables_may_be_written();
+}
+
+/// So it is in the middle of a way back, for the record of a key that is taken back.
+pub fn keys_enter_midway<D: Disk>()
+    ensures { KeysEnterMidway D D.meaning }
+{
+    one_reading();
+    sound_images_stand_one_way();
+    batches_last::<D, FireLinks>();
+    entries_stay_midway::<D, FireLinks>();
+    its_records_are_found();
+    its_tables_may_be_written();
 }
 
 /// The undo list of a transaction gives the keys that it has changed since a point, each with what was.

@@ -25,6 +25,7 @@ use mg_engine_steps::{
     batches_last, changes_are_taken_back, engines_go_back, memory_follows,
     pages_show_what_is_taken_back,
 };
+use mg_entry_steps::entries_stay_midway;
 use mg_image_overlays::sound_images_stand_one_way;
 use mg_model::histories_go_on;
 use mg_seek::records_are_those_of_every_reading;
@@ -43,6 +44,7 @@ pub fn keys_go_on<D: Disk, L: Links>()
 {
     batches_last::<D, L>();
     sound_images_stand_one_way();
+    entries_stay_midway::<D, L>();
     changes_are_taken_back::<D, L>();
     pages_show_what_is_taken_back();
 }

@@ -7,6 +7,10 @@ returns g c = record {
       c.keys_are_those_of_the_history.ensures.speakers c.records_are_those_of_every_reading.ensures.places
       c.sound_images_are_lawful.ensures.records c.sound_images_are_lawful.ensures.tables
       c.lawful_tables_are_read.ensures.tables c.keys_are_read.ensures.ways c.records_change.ensures.out
-      c.records_change.ensures.replaced;
+      c.records_change.ensures.replaced c.keys_enter_midway.ensures (record {
+        lawful = c.insertions_meet_none.ensures.lawful;
+        none = c.insertions_meet_none.ensures.none c.pages_are_taken.ensures.kept;
+        taken = c.pages_are_taken.ensures.taken;
+      });
   pages = keys_miss_no_page g.D.Disk.meaning;
 }

@@ -1,10 +1,6 @@
-use Rattle.mg_engine_meaning.specs.Meaning.{Places}
+use Rattle.mg_no_damage.specs.EntryTrees.{no_places}
 use Rattle.mg_no_damage.proofs.WriteLemmas.{writes}
 use Rattle.mg_no_damage.proofs.engines.writes_meet_no_damage.Goals as goal
-
--- places that nobody walks to
-no_places : Places (Unit {0})
-no_places = record { rec = λ x. record { page = record { 0 = 0 }; slot = 0 }; sequence = λ x. 0; rank = λ x. 0 }
 
 pub returns : goal.returns
 returns g c = writes g.D.Disk.meaning no_places (record {
@@ -20,24 +16,20 @@ returns g c = writes g.D.Disk.meaning no_places (record {
   may_write = c.seen_may_be_written.ensures;
   coded = c.stored_rows_are_coded.ensures;
   lists = c.lists_go_on.ensures.stay;
-  one = c.one_reading.ensures.packed_rows;
-  on = c.tips_stay.ensures.on;
-  behind = c.tips_stay.ensures.behind;
-  keep_plain = c.writes_keep_plain.ensures;
-  ways_free = c.ways_are_free.ensures;
   dirs = record {
     one_way = c.sound_images_stand_one_way.ensures;
     walked = c.tables_of_layouts_are_walked.ensures;
     speakers = c.records_are_those_of_every_reading.ensures.speakers;
   };
   counts_now = g.met.D.Disk.counts_now;
-  holds = g.met.D.Disk.holds;
   unask = c.unasking_lasts.ensures;
-  last = c.batches_last.ensures.reads;
-  still = c.batches_last.ensures.still;
-  deads = c.deads_go.ensures;
+  starts = c.first_batches_stay.ensures.starts;
+  all = c.first_batches_stay.ensures.all;
+  rows_enter = c.first_batches_stay.ensures.rows;
+  entries_lawful = c.insertions_meet_none.ensures.lawful;
+  entries_none = c.insertions_meet_none.ensures.none c.pages_are_taken.ensures.kept;
+  taken = c.pages_are_taken.ensures.taken;
   places_of = c.records_are_those_of_every_reading.ensures.places;
-  speak = c.records_are_those_of_every_reading.ensures.speakers;
   records = c.sound_images_are_lawful.ensures.records;
   stand = c.sound_images_are_lawful.ensures.tables;
   placed = c.records_are_made.ensures.places;

@@ -3,6 +3,8 @@ use Rattle.mg_no_damage.proofs.room.backs_take_few.Goals as goal
 
 pub returns : goal.returns
 returns g c = record {
-  marks = marks_take_few g.D.Disk.meaning c.room_is_known.ensures c.counts_are_known.ensures;
-  savepoints = savepoints_take_few g.D.Disk.meaning c.room_is_known.ensures c.counts_are_known.ensures;
+  marks = marks_take_few g.D.Disk.meaning c.room_is_known.ensures c.counts_are_known.ensures
+      c.trees_stand_back.ensures.all;
+  savepoints = savepoints_take_few g.D.Disk.meaning c.room_is_known.ensures c.counts_are_known.ensures
+      c.trees_stand_back.ensures.all;
 }

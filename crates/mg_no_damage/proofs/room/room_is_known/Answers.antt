@@ -6,4 +6,6 @@ returns g c = record {
   holds = g.met.D.Disk.holds;
   batches = batch_laws g.D.Disk.meaning c.pages_are_taken.ensures.kept;
   counts_now = g.met.D.Disk.counts_now;
+  eighteen = c.insertions_take_few.ensures.eighteen c.pages_are_taken.ensures.kept;
+  there = c.insertions_meet_none.ensures.there c.pages_are_taken.ensures.kept;
 }

@@ -1,4 +1,5 @@
-use Rattle.mg_engine_changes.specs.LaidLaws.{made_new, ready_of}
+use Rattle.mg_engine_changes.specs.LaidLaws.{made_new}
+use Rattle.mg_engine_changes.specs.WriteWays.{ready_of}
 use Rattle.mg_engine_changes.proofs.row_writes.writes.new_rows_go_on.Goals as goal
 
 pub returns : goal.returns
@@ -15,5 +16,6 @@ returns g c = λ places old new t table write rec o h core given noted fits writ
     }) g.D.Disk.meaning places g.met.D.Disk.counts_now g.met.D.Disk.holds
     c.unasking_lasts.ensures c.batches_last.ensures.reads c.writes_go_on.ensures c.pushes_go_on.ensures
     c.replacements_go_on.ensures old t table write core given noted fits o h written.puts.read written.puts.before
-    written.puts.version (ready_of g.D.Disk.meaning old new t table write written) stands new written.puts.laid written.puts.noted
+    written.puts.version (ready_of g.D.Disk.meaning old new t table write written) stands c.entries_stay.ensures
+    new written.puts.laid written.puts.noted
     c.batches_last.ensures.still c.firsts_go_on.ensures way

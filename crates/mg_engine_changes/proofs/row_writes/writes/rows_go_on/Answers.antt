@@ -1,4 +1,5 @@
-use Rattle.mg_engine_changes.specs.LaidLaws.{pushed, ready_of, replaced}
+use Rattle.mg_engine_changes.specs.LaidLaws.{pushed, replaced}
+use Rattle.mg_engine_changes.specs.WriteWays.{ready_of}
 use Rattle.mg_engine_changes.proofs.row_writes.writes.rows_go_on.Goals as goal
 
 pub returns-clause-pushed : goal.returns-clause-pushed
@@ -15,7 +16,8 @@ returns-clause-pushed g c = λ places old new t table write rec o h core given n
     }) g.D.Disk.meaning places g.met.D.Disk.counts_now g.met.D.Disk.holds
     c.unasking_lasts.ensures c.batches_last.ensures.reads c.writes_go_on.ensures c.pushes_go_on.ensures
     c.replacements_go_on.ensures old t table write core given noted fits o h written.puts.read written.puts.before
-    written.puts.version (ready_of g.D.Disk.meaning old new t table write written) stands new written.puts.laid written.puts.noted rec way
+    written.puts.version (ready_of g.D.Disk.meaning old new t table write written) stands c.entries_stay.ensures
+    new written.puts.laid written.puts.noted rec way
 
 pub returns-clause-replaced : goal.returns-clause-replaced
 returns-clause-replaced g c = λ places old new t table write rec o h core given noted fits written way stands.
@@ -31,4 +33,5 @@ returns-clause-replaced g c = λ places old new t table write rec o h core given
     }) g.D.Disk.meaning places g.met.D.Disk.counts_now g.met.D.Disk.holds
     c.unasking_lasts.ensures c.batches_last.ensures.reads c.writes_go_on.ensures c.pushes_go_on.ensures
     c.replacements_go_on.ensures old t table write core given noted fits o h written.puts.read written.puts.before
-    written.puts.version (ready_of g.D.Disk.meaning old new t table write written) stands new written.puts.laid written.puts.noted rec way
+    written.puts.version (ready_of g.D.Disk.meaning old new t table write written) stands c.entries_stay.ensures
+    new written.puts.laid written.puts.noted rec way

@@ -3,4 +3,4 @@ use Rattle.mg_engine_changes.proofs.takings.keys.key_steps_are_taken.Goals as go
 
 pub returns : goal.returns
 returns g c = key_steps_are_taken g.row.D.Denot g.D.Disk.meaning c.keys_are_taken.ensures.was
-    c.its_records_are_found.ensures.changes c.its_records_are_found.ensures.found
+    c.its_records_are_found.ensures.changes

@@ -17,6 +17,7 @@ returns g c = record {
   first_shows = c.pages_show_what_is_taken_back.ensures.first;
   undo_gives = c.undo_lists_give_keys.ensures;
   takes_all = c.cores_take_all.ensures;
+  enters = c.cores_enter_some.ensures;
   keep_lists = c.keys_keep_lists.ensures;
   keep_pages = c.keys_keep_pages.ensures;
   given_up = c.stops_go_on.ensures.given_up;
