@@ -11,14 +11,14 @@ use Rattle.mg_image.specs.Form.{Form, Pages}
 use Rattle.mg_image.specs.Records.{Reading, Stands, cells_of}
 use Rattle.mg_image.specs.Sound.{IsSoundBy, facts_by}
 use Rattle.mg_image.specs.Tables.{Layout}
-use Rattle.mg_image_overlays.specs.Rest.{LeavesRest, LeavesRests}
-use Rattle.mg_image_overlays.specs.KeptImages.{IsKept}
+use Rattle.mg_image_overlays.specs.kept.Rest.{LeavesRest, LeavesRests}
+use Rattle.mg_image_overlays.specs.kept.KeptImages.{IsKept}
 use Rattle.mg_overlays.specs.Views.{LaysPage, partly, step_in, step_out}
-use Rattle.mg_image_overlays.specs.FreePart.{FreesPage}
-use Rattle.mg_image_overlays.specs.TakeOut.{free_sound}
-use Rattle.mg_image_overlays.specs.DeadSteps.{StepsDead, dead_in, dead_out}
-use Rattle.mg_image_overlays.specs.PushPart.{cells_alike, cells_laid, page_laid}
-use Rattle.mg_image_overlays.specs.QuietSteps.{quiet_in, quiet_out}
+use Rattle.mg_image_overlays.specs.records.FreePart.{FreesPage}
+use Rattle.mg_image_overlays.specs.records.TakeOut.{free_sound}
+use Rattle.mg_image_overlays.specs.records.DeadSteps.{StepsDead, dead_in, dead_out}
+use Rattle.mg_image_overlays.specs.records.PushPart.{cells_alike, cells_laid, page_laid}
+use Rattle.mg_image_overlays.specs.records.QuietSteps.{quiet_in, quiet_out}
 
 -- some cells, as a test of their places
 abbrev pub Places : Type 0

@@ -16,19 +16,19 @@ use Rattle.mg_image.specs.RecordRules.{Facts, table_in}
 use Rattle.mg_image.specs.Records.{Reading, Stands, cells_of}
 use Rattle.mg_image.specs.Sound.{IsSoundBy, facts_by}
 use Rattle.mg_image.specs.Tables.{Layout}
-use Rattle.mg_image_overlays.specs.SkipFronts.{unread as skip_unread}
-use Rattle.mg_image_overlays.specs.Skips.{IsCommittedAt, LeadsInto, before, behind}
-use Rattle.mg_image_overlays.specs.Fronts.{HasFronts, living}
-use Rattle.mg_image_overlays.specs.Kinds.{HasNoSequences}
-use Rattle.mg_image_overlays.specs.Rest.{LeavesRest, LeavesRests}
-use Rattle.mg_image_overlays.specs.Trees.{data_leaves, trees_stay}
-use Rattle.mg_image_overlays.specs.KeptImages.{IsKept, keeping}
-use Rattle.mg_image_overlays.specs.Thins.{front_self}
+use Rattle.mg_image_overlays.specs.records.SkipFronts.{unread as skip_unread}
+use Rattle.mg_image_overlays.specs.records.Skips.{IsCommittedAt, LeadsInto, before, behind}
+use Rattle.mg_image_overlays.specs.records.Fronts.{HasFronts, living}
+use Rattle.mg_image_overlays.specs.pages.Kinds.{HasNoSequences}
+use Rattle.mg_image_overlays.specs.kept.Rest.{LeavesRest, LeavesRests}
+use Rattle.mg_image_overlays.specs.pages.Trees.{data_leaves, trees_stay}
+use Rattle.mg_image_overlays.specs.kept.KeptImages.{IsKept, keeping}
+use Rattle.mg_image_overlays.specs.records.Thins.{front_self}
 use Rattle.mg_overlays.specs.BatchLaws.{change_keeps_always}
 use Rattle.mg_overlays.specs.Overlays.{ChangesCache, EveryOverlay, KeepsLaidAlways, KeepsNeeds, left_state}
 use Rattle.mg_overlays.specs.Views.{LaysPage, first_view, last_view, partly, step_in, step_out}
 use Rattle.mg_collect_overlays.specs.Frees.{FreesAll, IsUnread, Places, free_all}
-use Rattle.mg_image_overlays.specs.SkipPart.{RelinksPage, laid_page, skip_in, skip_out}
+use Rattle.mg_image_overlays.specs.records.SkipPart.{RelinksPage, laid_page, skip_in, skip_out}
 
 -- The version is a committed one of a record of a table, the link names one behind it or there is none, and these cells
 -- are those of versions between the two.

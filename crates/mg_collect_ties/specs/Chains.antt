@@ -8,7 +8,7 @@ use Rattle.mg_image.specs.RecordRules.{AreOnce, Each, Facts, IsVersion, table_in
 use Rattle.mg_image.specs.Records.{Cells, Chain, Stands, ended, goes}
 use Rattle.mg_image.specs.StepLaws.{cases_place, same_place}
 use Rattle.mg_image.specs.declared.entry.Entry.{Entry}
-use Rattle.mg_image_overlays.specs.Skips.{IsCommittedAt, LeadsInto, before, behind}
+use Rattle.mg_image_overlays.specs.records.Skips.{IsCommittedAt, LeadsInto, before, behind}
 use Rattle.mg_model.specs.declared.table.Table.{Table}
 use Rattle.mg_version.specs.declared.cell.Cell.TheVariants as cells
 use Rattle.mg_version.specs.declared.cell.Link.{Link}

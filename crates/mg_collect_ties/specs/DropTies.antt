@@ -17,11 +17,11 @@ use Rattle.mg_image.specs.Records.{Changes, Reading, Stands, cells_of, newest_of
 use Rattle.mg_image.specs.Sound.{IsSoundBy, facts_by}
 use Rattle.mg_image.specs.StepLaws.{same_place}
 use Rattle.mg_image.specs.Tables.{Layout, stands_of, table_at}
-use Rattle.mg_image_overlays.specs.FreePart.{FreesPage}
-use Rattle.mg_image_overlays.specs.KeptImages.{IsKept, keeping}
-use Rattle.mg_image_overlays.specs.Kinds.{HasNoSequences}
-use Rattle.mg_image_overlays.specs.SkipPart.{RelinksPage}
-use Rattle.mg_image_overlays.specs.Skips.{IsCommittedAt, before, behind, behind_stands, stands_of_committed}
+use Rattle.mg_image_overlays.specs.records.FreePart.{FreesPage}
+use Rattle.mg_image_overlays.specs.kept.KeptImages.{IsKept, keeping}
+use Rattle.mg_image_overlays.specs.pages.Kinds.{HasNoSequences}
+use Rattle.mg_image_overlays.specs.records.SkipPart.{RelinksPage}
+use Rattle.mg_image_overlays.specs.records.Skips.{IsCommittedAt, before, behind, behind_stands, stands_of_committed}
 use Rattle.mg_model.specs.History.{Entries}
 use Rattle.mg_model.specs.declared.opening.Opening.{Opening}
 use Rattle.mg_model.specs.declared.table.Table.{Table}

@@ -21,15 +21,15 @@ use Rattle.mg_image.specs.Sound.{IsSoundBy, facts_by}
 use Rattle.mg_image.specs.StepLaws.{same_place}
 use Rattle.mg_image.specs.Tables.{Has, Layout, stands_of, table_at}
 use Rattle.mg_image.specs.declared.entry.Entry.{Entry}
-use Rattle.mg_image_overlays.specs.BackEvery.{dead_out_every}
-use Rattle.mg_image_overlays.specs.BackPart.{TakesOutPages}
-use Rattle.mg_image_overlays.specs.DataPages.{ChangesData}
-use Rattle.mg_image_overlays.specs.FreePart.{FreesPage}
-use Rattle.mg_image_overlays.specs.KeptImages.{IsKept, keeping}
-use Rattle.mg_image_overlays.specs.Kinds.{HasNoSequences}
-use Rattle.mg_image_overlays.specs.OwnVersion.{FindsNewest}
-use Rattle.mg_image_overlays.specs.Reach.{IsEntered}
-use Rattle.mg_image_overlays.specs.TakeOut.{back_cell}
+use Rattle.mg_image_overlays.specs.records.BackEvery.{dead_out_every}
+use Rattle.mg_image_overlays.specs.records.BackPart.{TakesOutPages}
+use Rattle.mg_image_overlays.specs.pages.DataPages.{ChangesData}
+use Rattle.mg_image_overlays.specs.records.FreePart.{FreesPage}
+use Rattle.mg_image_overlays.specs.kept.KeptImages.{IsKept, keeping}
+use Rattle.mg_image_overlays.specs.pages.Kinds.{HasNoSequences}
+use Rattle.mg_image_overlays.specs.records.OwnVersion.{FindsNewest}
+use Rattle.mg_image_overlays.specs.pages.Reach.{IsEntered}
+use Rattle.mg_image_overlays.specs.records.TakeOut.{back_cell}
 use Rattle.mg_model.specs.History.{Entries}
 use Rattle.mg_model.specs.declared.opening.Opening.{Opening}
 use Rattle.mg_model.specs.declared.table.Table.{Table}

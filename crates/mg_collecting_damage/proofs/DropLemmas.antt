@@ -23,8 +23,8 @@ use Rattle.mg_image.specs.Records.{Cells, Chain, Reading, Stands, cell_spelled, 
 use Rattle.mg_image.specs.Sound.{IsCellOf, IsSoundBy, facts_by}
 use Rattle.mg_image.specs.Tables.{Has, Layout, stands_of, table_at}
 use Rattle.mg_image.specs.declared.entry.Entry.{Entry}
-use Rattle.mg_image_overlays.specs.Growing.{IsTableOf}
-use Rattle.mg_image_overlays.specs.OneTable.{its_data}
+use Rattle.mg_image_overlays.specs.tables.Growing.{IsTableOf}
+use Rattle.mg_image_overlays.specs.tables.OneTable.{its_data}
 use Rattle.mg_model.specs.declared.table.Table.{Table}
 use Rattle.mg_no_damage.specs.Lawful.{AreGood, IsGood, good_before, good_lawful, good_none, good_orders, good_puts, in_here}
 use Rattle.mg_no_damage.specs.Reading.{Reads, page_there}

@@ -18,7 +18,7 @@ use Rattle.mg_core.specs.Cores.{IsCore}
 use Rattle.mg_core.specs.Refusing.{CountsFault}
 use Rattle.mg_core.specs.declared.parts.Core.{Core}
 use Rattle.mg_core_collecting.specs.Places.{CollectsPlace, FailsSettled, IsSettled, RefusesLook, not_collected, not_looked, not_told}
-use Rattle.mg_engine_changes.specs.Plain.{WritesKeepPlain}
+use Rattle.mg_engine_changes.specs.rows.Plain.{WritesKeepPlain}
 use Rattle.mg_engine_collecting.specs.CoreStays.{HasInNamed, shows_then}
 use Rattle.mg_engine_collecting.specs.PlaceNamed.{core_behind, named_behind, record_there}
 use Rattle.mg_engine_collecting.specs.RunStays.{steps_on}
@@ -27,9 +27,9 @@ use Rattle.mg_engine_meaning.specs.Meaning.{Places}
 use Rattle.mg_engine_meaning.specs.ReadLaws.{reads_stand}
 use Rattle.mg_engine_meaning.specs.Standings.{ShowsIt, StandsFor, asked_in, sessions_in, standing_of}
 use Rattle.mg_engine_meaning.specs.StepLaws.{shows_of}
-use Rattle.mg_engine_steps.specs.Batches.{ReadsLast, RowsLastStill}
-use Rattle.mg_engine_steps.specs.ListShows.{ListsStay, TipsStayOn}
-use Rattle.mg_engine_steps.specs.Standing.{ShowsHistory, Standing}
+use Rattle.mg_engine_steps.specs.writes.Batches.{ReadsLast, RowsLastStill}
+use Rattle.mg_engine_steps.specs.commits.ListShows.{ListsStay, TipsStayOn}
+use Rattle.mg_engine_steps.specs.standing.Standing.{ShowsHistory, Standing}
 use Rattle.mg_generations.specs.Laws.{CoveredMayGo, ErasedMayGo}
 use Rattle.mg_heap.specs.Listed.{IsRecordOf, RefusesRecordOf}
 use Rattle.mg_heap.specs.Stands.{TablesAreWalked}
@@ -40,10 +40,10 @@ use Rattle.mg_image.specs.Records.{Chain, Reading, cells_of}
 use Rattle.mg_image.specs.Sound.{IsSoundBy, facts_by}
 use Rattle.mg_image.specs.Tables.{Layout, Stand, stands_of, table_at}
 use Rattle.mg_image.specs.declared.entry.Entry.{Entry}
-use Rattle.mg_image_overlays.specs.Growing.{IsTableOf}
-use Rattle.mg_image_overlays.specs.OneLayout.{StandsOneWay}
-use Rattle.mg_image_overlays.specs.OneTable.{stands_in}
-use Rattle.mg_image_overlays.specs.TableOwners.{IsOneOf}
+use Rattle.mg_image_overlays.specs.tables.Growing.{IsTableOf}
+use Rattle.mg_image_overlays.specs.tables.OneLayout.{StandsOneWay}
+use Rattle.mg_image_overlays.specs.tables.OneTable.{stands_in}
+use Rattle.mg_image_overlays.specs.tables.TableOwners.{IsOneOf}
 use Rattle.mg_lasting.specs.PoolLaws.{HoldsOne}
 use Rattle.mg_model.specs.History.{Entries}
 use Rattle.mg_model.specs.Laws.{OpeningsBegin}

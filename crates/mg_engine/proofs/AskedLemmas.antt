@@ -2,7 +2,7 @@
 use Rattle.std.proofs.Common.{◌≡◌, Option, None, Some, OnOk, Result, subst}
 use Rattle.mg_base.specs.Disk.{Meaning}
 use Rattle.mg_core.specs.declared.parts.Core.{Core}
-use Rattle.mg_engine_changes.specs.Asked.{AsksNoWrite, AsksOneWrite}
+use Rattle.mg_engine_changes.specs.faults.Asked.{AsksNoWrite, AsksOneWrite}
 use Rattle.mg_engine_meaning.specs.Meaning.{Places, means_with_room}
 use Rattle.mg_model.specs.declared.refusal.Refusal.{Refusal}
 use Rattle.mg_model.specs.declared.refusal.Refusal.TheVariants as refusals

@@ -6,8 +6,8 @@ use Rattle.mg_base.specs.declared.numbers.TxNo.{TxNo}
 use Rattle.mg_base.specs.declared.memory.Memory.{Memory}
 use Rattle.mg_core.specs.declared.parts.Core.{Core}
 use Rattle.mg_model.specs.declared.refusal.Refusal.{Refusal}
-use Rattle.mg_engine_changes.specs.Notes.{AreCounts}
-use Rattle.mg_engine_changes.specs.Outcomes.{IsBack, IsUndone}
+use Rattle.mg_engine_changes.specs.memory.Notes.{AreCounts}
+use Rattle.mg_engine_changes.specs.backs.Outcomes.{IsBack, IsUndone}
 use Rattle.mg_engine_meaning.specs.Meaning.{Places}
 
 -- what is told where the answer is no

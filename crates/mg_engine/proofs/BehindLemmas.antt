@@ -5,7 +5,7 @@ use Rattle.mg_base.specs.Image.{Image}
 use Rattle.mg_core.specs.declared.parts.Core.{Core}
 use Rattle.mg_core.specs.declared.scanning.Place.{Place}
 use Rattle.mg_engine.specs.Noting.{OnlyLooks}
-use Rattle.mg_engine_changes.specs.Told.{TellsFaults}
+use Rattle.mg_engine_changes.specs.faults.Told.{TellsFaults}
 use Rattle.mg_engine_meaning.specs.Frames.{GivesEvent}
 use Rattle.mg_engine_meaning.specs.FreePages.{CoreHasFree}
 use Rattle.mg_engine_meaning.specs.Meaning.{Places, means}

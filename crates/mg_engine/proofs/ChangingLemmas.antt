@@ -13,11 +13,11 @@ use Rattle.mg_engine.proofs.UnreadLemmas.{unread_looks}
 use Rattle.mg_engine.specs.Changing.{ChangesGoOn, GivesWrite, WritesFirst}
 use Rattle.mg_engine.specs.Keyed.{NotesGoOn}
 use Rattle.mg_engine.specs.Noting.{HasNoted, NotesKeys, OnlyLooks}
-use Rattle.mg_engine_changes.specs.Notes.{AreCounts}
-use Rattle.mg_engine_changes.specs.Refusals.{RefusesStill}
-use Rattle.mg_engine_changes.specs.Steps.{NotedFailsApart, NotedFailsGive, NotedWritesApart, NotedWritesGive}
-use Rattle.mg_engine_changes.specs.Told.{WritesTell, disk_count}
-use Rattle.mg_engine_changes.specs.Unread.{LeavesUnread, UnreadWritesGive}
+use Rattle.mg_engine_changes.specs.memory.Notes.{AreCounts}
+use Rattle.mg_engine_changes.specs.rows.Refusals.{RefusesStill}
+use Rattle.mg_engine_changes.specs.rows.Steps.{NotedFailsApart, NotedFailsGive, NotedWritesApart, NotedWritesGive}
+use Rattle.mg_engine_changes.specs.faults.Told.{WritesTell, disk_count}
+use Rattle.mg_engine_changes.specs.rows.Unread.{LeavesUnread, UnreadWritesGive}
 use Rattle.mg_engine_meaning.specs.Counts.{HasCounts}
 use Rattle.mg_engine_meaning.specs.Frames.{GivesEvent}
 use Rattle.mg_engine_meaning.specs.Meaning.{Places}

@@ -20,7 +20,7 @@ use Rattle.mg_engine.specs.KeyCollecting.{CollectsAtKey, CollectsBeside, Collect
 use Rattle.mg_engine.specs.Keyed.{FailsKey, GivesRow, KeysGoOn}
 use Rattle.mg_engine.specs.Noting.{OnlyLooks}
 use Rattle.mg_engine.specs.Places.{places}
-use Rattle.mg_engine_changes.specs.StopLaws.{fault_outer}
+use Rattle.mg_engine_changes.specs.rows.StopLaws.{fault_outer}
 use Rattle.mg_engine_collecting.specs.PlaceLeaves.{CollectionsLeave}
 use Rattle.mg_engine_collecting.specs.PlaceStays.{CollectionsAreNobodys, IsNobodysEvent}
 use Rattle.mg_engine_collecting.specs.PlaceTells.{CollectionsTell}

@@ -22,7 +22,7 @@ use Rattle.mg_engine.proofs.UnreadLemmas.{unread_looks, unread_refused}
 use Rattle.mg_engine.specs.Keyed.{AnswersKey, AnswersNoted, FailsKey, GivesRow, KeysGoOn, NotesGoOn, ReadsKey}
 use Rattle.mg_engine.specs.Noting.{HasNoted, NotesKeys, OnlyLooks}
 use Rattle.mg_engine.specs.Places.{places as core_places}
-use Rattle.mg_engine_changes.specs.FaultCoreLaws.{only_read}
+use Rattle.mg_engine_changes.specs.faults.FaultCoreLaws.{only_read}
 use Rattle.mg_engine_meaning.specs.Counts.{HasCounts}
 use Rattle.mg_engine_meaning.specs.FrameLaws.{sessions_of, works_same}
 use Rattle.mg_engine_meaning.specs.LawfulLaws.{memory_of}
@@ -30,10 +30,10 @@ use Rattle.mg_engine_meaning.specs.Meaning.{Places, means}
 use Rattle.mg_engine_meaning.specs.Standings.{ShowsIt, StandsFor, standing_of}
 use Rattle.mg_engine_meaning.specs.StepLaws.{refused_none, shows_of}
 use Rattle.mg_engine_meaning.specs.Steps.{AddsNone, ReadsGoOn}
-use Rattle.mg_engine_steps.specs.AnswersLaws.{NothingAtKeys, RowsAtKeys, SpeakersAreTold, TellsSpeaker}
-use Rattle.mg_engine_steps.specs.KeyAnswers.{has_speaker}
-use Rattle.mg_engine_steps.specs.Known.{IsShown, KnowsPages, facts_shown, speaker_of}
-use Rattle.mg_engine_steps.specs.Standing.{Standing}
+use Rattle.mg_engine_steps.specs.reads.AnswersLaws.{NothingAtKeys, RowsAtKeys, SpeakersAreTold, TellsSpeaker}
+use Rattle.mg_engine_steps.specs.reads.KeyAnswers.{has_speaker}
+use Rattle.mg_engine_steps.specs.standing.Known.{IsShown, KnowsPages, facts_shown, speaker_of}
+use Rattle.mg_engine_steps.specs.standing.Standing.{Standing}
 use Rattle.mg_generations.specs.Generations.{sees, shown_by}
 use Rattle.mg_generations.specs.Laws.{ChainsShowViews}
 use Rattle.mg_image.specs.declared.entry.Entry.{Entry}
@@ -41,7 +41,7 @@ use Rattle.mg_image.specs.Form.{Pages, Row, packed_coding}
 use Rattle.mg_image.specs.Held.{told_row}
 use Rattle.mg_image.specs.RecordRules.{Each, Facts, IsVersion}
 use Rattle.mg_image.specs.Records.{key_of, record_key, writer}
-use Rattle.mg_image_overlays.specs.Fronts.{is_dead, living}
+use Rattle.mg_image_overlays.specs.records.Fronts.{is_dead, living}
 use Rattle.mg_model.specs.declared.opening.Opening.{Opening}
 use Rattle.mg_model.specs.declared.refusal.Refusal.{Refusal}
 use Rattle.mg_model.specs.declared.table.Table.{Table}

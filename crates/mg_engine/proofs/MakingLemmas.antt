@@ -14,9 +14,9 @@ use Rattle.mg_value.specs.Names.{IsName}
 use Rattle.mg_value.specs.declared.shape.Shape.{Shape}
 use Rattle.mg_works.specs.Works.{AreApart}
 use Rattle.mg_engine.specs.Engines.{IsEngine}
-use Rattle.mg_engine_changes.specs.MakingSteps.{AreNamed, CreationsKeepApart, GivesTable, MayHave, RefusalsKeepApart, TablesAreMade, TablesAreRefused}
+use Rattle.mg_engine_changes.specs.tables.MakingSteps.{AreNamed, CreationsKeepApart, GivesTable, MayHave, RefusalsKeepApart, TablesAreMade, TablesAreRefused}
 use Rattle.mg_engine_meaning.specs.Meaning.{Places, means}
-use Rattle.mg_engine_changes.specs.Notes.{AreCounts}
+use Rattle.mg_engine_changes.specs.memory.Notes.{AreCounts}
 use Rattle.mg_no_damage.specs.FewPagesCalls.{CreationsTakeFew}
 use Rattle.mg_no_damage.specs.Creations.{CreationsMeetNone}
 use Rattle.mg_engine.proofs.ToldLemmas.{room_as, undamaged_as}

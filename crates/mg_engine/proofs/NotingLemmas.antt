@@ -10,19 +10,19 @@ use Rattle.mg_core.specs.declared.scanning.Place.{Place}
 use Rattle.mg_engine.proofs.GivenLemmas.{given_begins_elsewhere, given_there}
 use Rattle.mg_engine.specs.Keyed.{AnswersKey, AnswersNoted, NotesGoOn}
 use Rattle.mg_engine.specs.Noting.{NotesKeys, OnlyLooks}
-use Rattle.mg_engine_changes.specs.FaultCoreLaws.{only_read}
+use Rattle.mg_engine_changes.specs.faults.FaultCoreLaws.{only_read}
 use Rattle.mg_engine_meaning.specs.DirectoryLaws.{made_stands}
 use Rattle.mg_engine_meaning.specs.FrameLaws.{sessions_of, works_same}
 use Rattle.mg_engine_meaning.specs.Meaning.{AreNext, Places, means, place_at}
 use Rattle.mg_engine_meaning.specs.Standings.{ShowsIt, StandsFor, standing_of}
 use Rattle.mg_engine_meaning.specs.StepLaws.{as_standing, shows_of}
 use Rattle.mg_engine_meaning.specs.Steps.{ReadsGoOn}
-use Rattle.mg_engine_steps.specs.Batches.{ReadsLast}
-use Rattle.mg_engine_steps.specs.Standing.{Standing}
-use Rattle.mg_engine_steps.specs.Walking.{WalkPlace}
+use Rattle.mg_engine_steps.specs.writes.Batches.{ReadsLast}
+use Rattle.mg_engine_steps.specs.standing.Standing.{Standing}
+use Rattle.mg_engine_steps.specs.reads.Walking.{WalkPlace}
 use Rattle.mg_heap.specs.Stands.{TablesAreWalked}
 use Rattle.mg_image.specs.Form.{packed_form}
-use Rattle.mg_image_overlays.specs.OneLayout.{StandsOneWay}
+use Rattle.mg_image_overlays.specs.tables.OneLayout.{StandsOneWay}
 use Rattle.mg_model.specs.Changes.{Cells, KeyedRows}
 use Rattle.mg_model.specs.History.{Entries}
 use Rattle.mg_model.specs.Laws.{OpeningsBegin}

@@ -2,8 +2,8 @@
 use Rattle.std.proofs.Common.{◌≡◌, inl, inr, ◌*◌, ℕ, Option, Some, ap, subst}
 use Rattle.mg_base.specs.Disk.{Meaning}
 use Rattle.mg_core.specs.declared.parts.Core.{Core}
-use Rattle.mg_engine_changes.specs.Outcomes.{IsRolledShort}
-use Rattle.mg_engine_changes.specs.Told.{TellsFaults, disk_count}
+use Rattle.mg_engine_changes.specs.backs.Outcomes.{IsRolledShort}
+use Rattle.mg_engine_changes.specs.faults.Told.{TellsFaults, disk_count}
 use Rattle.mg_faults.specs.Faults.{each_fault, failed_writes}
 use Rattle.mg_no_damage.specs.Stands.{DamageStands}
 use Rattle.mg_no_damage.specs.FewPages.{CoreTakes, RoomStands, RoomStandsBack}

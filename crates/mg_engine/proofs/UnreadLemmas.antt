@@ -7,7 +7,7 @@ use Rattle.mg_core.specs.Reading.{FailsReading}
 use Rattle.mg_core.specs.declared.parts.Core.{Core}
 use Rattle.mg_core.specs.declared.scanning.Place.{Place}
 use Rattle.mg_engine.specs.Noting.{OnlyLooks}
-use Rattle.mg_engine_changes.specs.FaultCoreLaws.{not_read}
+use Rattle.mg_engine_changes.specs.faults.FaultCoreLaws.{not_read}
 use Rattle.mg_engine_meaning.specs.Counts.{HasCounts}
 use Rattle.mg_engine_meaning.specs.FaultLaws.{IsOuter, fault_outer}
 use Rattle.mg_engine_meaning.specs.FrameLaws.{sessions_of, works_same}

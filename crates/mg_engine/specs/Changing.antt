@@ -8,8 +8,8 @@ use Rattle.mg_core.specs.Noting.{WhyNotMade}
 use Rattle.mg_core.specs.declared.parts.Core.{Core}
 use Rattle.mg_core.specs.declared.scanning.Place.{Place}
 use Rattle.mg_engine.specs.Noting.{HasNoted}
-use Rattle.mg_engine_changes.specs.Told.{TellsFaults}
-use Rattle.mg_engine_changes.specs.Unread.{LeavesUnread}
+use Rattle.mg_engine_changes.specs.faults.Told.{TellsFaults}
+use Rattle.mg_engine_changes.specs.rows.Unread.{LeavesUnread}
 use Rattle.mg_engine_meaning.specs.Counts.{HasCounts}
 use Rattle.mg_engine_meaning.specs.Frames.{GivesEvent}
 use Rattle.mg_engine_meaning.specs.Meaning.{Places}

@@ -3,7 +3,7 @@ use Rattle.std.proofs.Common.{◌≡◌, ◌∙◌, Some, ap, sym}
 use Rattle.mg_base.specs.Disk.{Meaning}
 use Rattle.mg_engine_meaning.specs.LawfulLaws.{walks_are_whole}
 use Rattle.mg_engine_meaning.specs.Meaning.{Places, means}
-use Rattle.mg_engine_steps.specs.WalkAnswers.{walks_begin}
+use Rattle.mg_engine_steps.specs.reads.WalkAnswers.{walks_begin}
 use Rattle.mg_generations.specs.KeptShowLaws.{chain_shows_view}
 use Rattle.mg_records.specs.Reading.{WalksAreWhole}
 use Rattle.mg_records.specs.Sessions.{SessionsAreOne}

@@ -8,7 +8,7 @@ use Rattle.mg_core.specs.Cores.{Continues, IsCore, RefusesCall}
 use Rattle.mg_core.specs.Writing.{ReadsKnown}
 use Rattle.mg_core.specs.declared.parts.Core.{Core}
 use Rattle.mg_core_collecting.specs.Places.{CollectsPlace}
-use Rattle.mg_engine_changes.specs.Told.{TellsFaults}
+use Rattle.mg_engine_changes.specs.faults.Told.{TellsFaults}
 use Rattle.mg_engine_collecting.specs.Versions.{collecting}
 use Rattle.mg_engine_meaning.specs.Counts.{HasCounts}
 use Rattle.mg_engine_meaning.specs.Meaning.{means}

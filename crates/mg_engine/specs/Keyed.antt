@@ -9,8 +9,8 @@ use Rattle.mg_core.specs.Noting.{MakesDirectory}
 use Rattle.mg_core.specs.Reading.{FailsReading}
 use Rattle.mg_core.specs.Writing.{ReadsKnown, WhyOfKnown}
 use Rattle.mg_engine.specs.Noting.{FailsNoting, HasNoted, OnlyLooks}
-use Rattle.mg_engine_changes.specs.Asked.{AsksNoWrite}
-use Rattle.mg_engine_changes.specs.Told.{TellsFaults}
+use Rattle.mg_engine_changes.specs.faults.Asked.{AsksNoWrite}
+use Rattle.mg_engine_changes.specs.faults.Told.{TellsFaults}
 use Rattle.mg_engine_meaning.specs.Counts.{HasCounts}
 use Rattle.mg_engine_meaning.specs.Meaning.{Places, means}
 use Rattle.mg_model.specs.declared.refusal.Refusal.{Refusal}

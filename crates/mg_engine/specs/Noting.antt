@@ -6,8 +6,8 @@ use Rattle.mg_core.specs.Cores.{Continues, IsCore}
 use Rattle.mg_core.specs.Noting.{MakesDirectory, WhyNotMade}
 use Rattle.mg_core.specs.Reading.{FailsReading}
 use Rattle.mg_core.specs.declared.parts.Core.{Core}
-use Rattle.mg_engine_changes.specs.Asked.{AsksNoWrite}
-use Rattle.mg_engine_changes.specs.Told.{TellsFaults}
+use Rattle.mg_engine_changes.specs.faults.Asked.{AsksNoWrite}
+use Rattle.mg_engine_changes.specs.faults.Told.{TellsFaults}
 use Rattle.mg_engine_meaning.specs.Meaning.{Places, means}
 use Rattle.mg_model.specs.declared.refusal.Refusal.{Refusal}
 use Rattle.mg_model.specs.declared.table.Table.{Table}

@@ -2,7 +2,7 @@
 
 ghost use Rattle.std.specs.Prelude.{Some};
 ghost use Rattle.mg_value.specs.Names.{IsName};
-ghost use Rattle.mg_engine_changes.specs.MakingSteps.{AreNamed};
+ghost use Rattle.mg_engine_changes.specs.tables.MakingSteps.{AreNamed};
 
 use mg_value::{Column, Name};
 

@@ -1,9 +1,9 @@
 //! A transaction is taken back to a point.
 
 ghost use Rattle.mg_core.specs.Cores.{IsCore};
-ghost use Rattle.mg_engine_changes.specs.Notes.{AreCounts};
-ghost use Rattle.mg_engine_changes.specs.Outcomes.{IsBack, IsRolledShort, IsUndone};
-ghost use Rattle.mg_engine_changes.specs.Told.{TellsFaults};
+ghost use Rattle.mg_engine_changes.specs.memory.Notes.{AreCounts};
+ghost use Rattle.mg_engine_changes.specs.backs.Outcomes.{IsBack, IsRolledShort, IsUndone};
+ghost use Rattle.mg_engine_changes.specs.faults.Told.{TellsFaults};
 ghost use Rattle.mg_no_damage.specs.Stands.{DamageStands};
 ghost use Rattle.mg_no_damage.specs.FewPages.{RoomStandsBack};
 ghost use Rattle.mg_model.specs.declared.change.Point.TheVariants.{LastMark, SavepointNamed};

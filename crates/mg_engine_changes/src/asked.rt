@@ -1,7 +1,7 @@
 //! What calls of an engine ask of the disk, and what those are refused for that take no memory. Each function does
 //! nothing: its contract is the law.
 
-ghost use Rattle.mg_engine_changes.specs.Asked.{AskingAsksNone, AskingTakesNothing, CommitsTakeNothing, FoundsTakeNoPage, LooksAskNone, LooksTakeNoPage, PageWritesAskOne, PageWritesTakeNothing, PointsAskNone, PointsTakeNoPage, RollbacksAskNone, RollbacksTakeNothing, StepsAskOne, StepsTakeNothing, TablesAskNone, WaitsAskNone, WalksAskNone};
+ghost use Rattle.mg_engine_changes.specs.faults.Asked.{AskingAsksNone, AskingTakesNothing, CommitsTakeNothing, FoundsTakeNoPage, LooksAskNone, LooksTakeNoPage, PageWritesAskOne, PageWritesTakeNothing, PointsAskNone, PointsTakeNoPage, RollbacksAskNone, RollbacksTakeNothing, StepsAskOne, StepsTakeNothing, TablesAskNone, WaitsAskNone, WalksAskNone};
 
 use mg_base::Disk;
 

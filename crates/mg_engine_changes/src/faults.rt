@@ -1,6 +1,6 @@
 //! What a call of an engine tells of the disk's faults. Each function does nothing: its contract is the law.
 
-ghost use Rattle.mg_engine_changes.specs.Told.{AsksTell, BeginsTell, CommitsTell, EventsTell, MakingsTell, MarksTell, PageWritesTell, PointsTell, RollbacksTell, SavepointsTell, StepsTell, TableMarksTell, TableSavepointsTell, TablesTell, WaitsTell, WalksTell, WritesTell};
+ghost use Rattle.mg_engine_changes.specs.faults.Told.{AsksTell, BeginsTell, CommitsTell, EventsTell, MakingsTell, MarksTell, PageWritesTell, PointsTell, RollbacksTell, SavepointsTell, StepsTell, TableMarksTell, TableSavepointsTell, TablesTell, WaitsTell, WalksTell, WritesTell};
 
 use mg_base::Disk;
 

@@ -9,21 +9,21 @@ use Rattle.mg_collecting.specs.Steps.{Steps}
 use Rattle.mg_core.specs.Cores.{IsCore}
 use Rattle.mg_core.specs.declared.parts.Core.{Core}
 use Rattle.mg_directory.specs.Candidates.{by_table}
-use Rattle.mg_engine_changes.specs.Laid.{StaysOver, bare_standing}
-use Rattle.mg_engine_changes.specs.Plain.{WritesKeepPlain}
-use Rattle.mg_engine_changes.specs.StageLaws.{over_so}
-use Rattle.mg_engine_changes.specs.Stages.{StaysSo}
+use Rattle.mg_engine_changes.specs.rows.Laid.{StaysOver, bare_standing}
+use Rattle.mg_engine_changes.specs.rows.Plain.{WritesKeepPlain}
+use Rattle.mg_engine_changes.specs.memory.StageLaws.{over_so}
+use Rattle.mg_engine_changes.specs.memory.Stages.{StaysSo}
 use Rattle.mg_engine_meaning.specs.Meaning.{Places}
 use Rattle.mg_engine_meaning.specs.Standings.{ShowsIt, StandsFor, StandsWhile, asked_in, sessions_in, standing_of}
 use Rattle.mg_engine_meaning.specs.StepLaws.{as_standing, shows_of}
-use Rattle.mg_engine_steps.specs.Batches.{ReadsLast, RowsLastStill}
-use Rattle.mg_engine_steps.specs.ListShows.{ListsStay, TipsStayOn}
-use Rattle.mg_engine_steps.specs.Standing.{Standing}
-use Rattle.mg_engine_steps.specs.Walking.{AreToCome}
+use Rattle.mg_engine_steps.specs.writes.Batches.{ReadsLast, RowsLastStill}
+use Rattle.mg_engine_steps.specs.commits.ListShows.{ListsStay, TipsStayOn}
+use Rattle.mg_engine_steps.specs.standing.Standing.{Standing}
+use Rattle.mg_engine_steps.specs.reads.Walking.{AreToCome}
 use Rattle.mg_generations.specs.Laws.{CoveredMayGo, ErasedMayGo}
 use Rattle.mg_image.specs.Form.{packed_coding, packed_form}
 use Rattle.mg_image.specs.ReadingLaws.{RowsAreOne}
-use Rattle.mg_image_overlays.specs.OneLayout.{StandsOneWay}
+use Rattle.mg_image_overlays.specs.tables.OneLayout.{StandsOneWay}
 use Rattle.mg_lasting.specs.PoolLaws.{HoldsOne}
 use Rattle.mg_model.specs.History.{Entries}
 use Rattle.mg_model.specs.Laws.{OpeningsBegin}

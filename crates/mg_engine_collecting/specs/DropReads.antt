@@ -7,7 +7,7 @@ use Rattle.mg_base.specs.declared.transaction.TxState.{TxState}
 use Rattle.mg_base.specs.declared.transaction.TxState.TheVariants.{Committed}
 use Rattle.mg_collect_ties.specs.Chains.{IsNext, next_before, next_leads}
 use Rattle.mg_collect_ties.specs.DropTies.{DropsPages}
-use Rattle.mg_engine_steps.specs.Writes.{ReadsAfter}
+use Rattle.mg_engine_steps.specs.writes.Writes.{ReadsAfter}
 use Rattle.mg_image.specs.Form.{Form, Pages}
 use Rattle.mg_image.specs.ReadingLaws.{Opens, chain_opens}
 use Rattle.mg_image.specs.RecordRules.{AreOnce, AreRecords, Facts}
@@ -16,19 +16,19 @@ use Rattle.mg_image.specs.Sound.{IsSoundBy, facts_by}
 use Rattle.mg_image.specs.StepLaws.{cases_place, put_cases, put_reading, same_place}
 use Rattle.mg_image.specs.Tables.{Layout, stands_of, table_at}
 use Rattle.mg_image.specs.declared.entry.Entry.{Entry}
-use Rattle.mg_image_overlays.specs.DataKept.{IsDataChanged, data_more, data_self}
-use Rattle.mg_image_overlays.specs.DataSound.{data_sound}
-use Rattle.mg_image_overlays.specs.Fronts.{HasFronts, living}
-use Rattle.mg_image_overlays.specs.GrowingLaws.{grown_self}
-use Rattle.mg_image_overlays.specs.Kinds.{HasNoSequences}
-use Rattle.mg_image_overlays.specs.QuietVersions.{AreQuiet, indexed_still, owns_still, shows_with}
-use Rattle.mg_image_overlays.specs.Rest.{LeavesRest}
-use Rattle.mg_image_overlays.specs.SkipFronts.{unread as skip_unread}
-use Rattle.mg_image_overlays.specs.SkipShown.{skip_indexed, skip_owns, skip_shows_with}
-use Rattle.mg_image_overlays.specs.Skips.{IsCommittedAt, LeadsInto, behind, from, skip_at, skip_sound, stands_of_committed, with_back}
-use Rattle.mg_image_overlays.specs.TakeOut.{free_sound}
-use Rattle.mg_image_overlays.specs.Thins.{front_self}
-use Rattle.mg_image_overlays.specs.Trees.{data_leaves, trees_stay}
+use Rattle.mg_image_overlays.specs.pages.DataKept.{IsDataChanged, data_more, data_self}
+use Rattle.mg_image_overlays.specs.pages.DataSound.{data_sound}
+use Rattle.mg_image_overlays.specs.records.Fronts.{HasFronts, living}
+use Rattle.mg_image_overlays.specs.tables.GrowingLaws.{grown_self}
+use Rattle.mg_image_overlays.specs.pages.Kinds.{HasNoSequences}
+use Rattle.mg_image_overlays.specs.records.QuietVersions.{AreQuiet, indexed_still, owns_still, shows_with}
+use Rattle.mg_image_overlays.specs.kept.Rest.{LeavesRest}
+use Rattle.mg_image_overlays.specs.records.SkipFronts.{unread as skip_unread}
+use Rattle.mg_image_overlays.specs.records.SkipShown.{skip_indexed, skip_owns, skip_shows_with}
+use Rattle.mg_image_overlays.specs.records.Skips.{IsCommittedAt, LeadsInto, behind, from, skip_at, skip_sound, stands_of_committed, with_back}
+use Rattle.mg_image_overlays.specs.records.TakeOut.{free_sound}
+use Rattle.mg_image_overlays.specs.records.Thins.{front_self}
+use Rattle.mg_image_overlays.specs.pages.Trees.{data_leaves, trees_stay}
 use Rattle.mg_model.specs.declared.table.Table.{Table}
 use Rattle.mg_version.specs.declared.cell.Cell.TheVariants as cells
 use Rattle.mg_version.specs.declared.cell.Link.{Link}

@@ -3,12 +3,12 @@
 use Rattle.std.proofs.Common.{◌≡◌, ◌≢◌, ◌∙◌, ◌⊎◌, inl, inr, refl, sym, ap, subst, ℕ, true, false, List, [], ◌∷◌, Option, None, Some}
 use Rattle.mg_base.specs.declared.numbers.RecId.{RecId}
 use Rattle.mg_base.specs.declared.transaction.TxState.{TxState}
-use Rattle.mg_engine_steps.specs.Standing.{ShowsHistory, Standing}
-use Rattle.mg_engine_steps.specs.StandingLaws.{IsChainOf}
-use Rattle.mg_engine_steps.specs.Versions.{HaveVersions, SpeaksFor, SpeaksOrSilent}
-use Rattle.mg_engine_steps.specs.Writes.{ReadsAfter}
-use Rattle.mg_engine_steps.specs.Writing.{Silenced}
-use Rattle.mg_engine_steps.specs.WritingLaws.{erased_may_be_silent}
+use Rattle.mg_engine_steps.specs.standing.Standing.{ShowsHistory, Standing}
+use Rattle.mg_engine_steps.specs.standing.StandingLaws.{IsChainOf}
+use Rattle.mg_engine_steps.specs.standing.Versions.{HaveVersions, SpeaksFor, SpeaksOrSilent}
+use Rattle.mg_engine_steps.specs.writes.Writes.{ReadsAfter}
+use Rattle.mg_engine_steps.specs.standing.Writing.{Silenced}
+use Rattle.mg_engine_steps.specs.standing.WritingLaws.{erased_may_be_silent}
 use Rattle.mg_generations.specs.Generations.{Generation}
 use Rattle.mg_generations.specs.Kept.{IsErasedForAll, StandFor}
 use Rattle.mg_image.specs.Form.{Form, Pages}

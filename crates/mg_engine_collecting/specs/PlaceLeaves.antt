@@ -20,8 +20,8 @@ use Rattle.mg_core_collecting.specs.Places.{CollectsOn, CollectsSettled, IsSettl
 use Rattle.mg_engine_meaning.specs.Meaning.{Places, means}
 use Rattle.mg_engine_meaning.specs.Standings.{ShowsIt, StandsFor, standing_of}
 use Rattle.mg_engine_meaning.specs.StepLaws.{shows_of}
-use Rattle.mg_engine_steps.specs.Based.{AreBased, IsBased}
-use Rattle.mg_engine_steps.specs.Standing.{ShowsHistory}
+use Rattle.mg_engine_steps.specs.standing.Based.{AreBased, IsBased}
+use Rattle.mg_engine_steps.specs.standing.Standing.{ShowsHistory}
 use Rattle.mg_heap.specs.Listed.{IsRecordOf}
 use Rattle.mg_heap.specs.Stands.{TablesAreWalked}
 use Rattle.mg_image.specs.Form.{Pages, packed_form}

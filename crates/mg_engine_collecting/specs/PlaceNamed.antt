@@ -14,7 +14,7 @@ use Rattle.mg_core.specs.declared.parts.Core.{Core}
 use Rattle.mg_core_collecting.specs.Places.{IsSettled}
 use Rattle.mg_engine_meaning.specs.Standings.{ShowsIt, StandsFor, standing_of}
 use Rattle.mg_engine_meaning.specs.StepLaws.{shows_of}
-use Rattle.mg_engine_steps.specs.Standing.{ShowsHistory}
+use Rattle.mg_engine_steps.specs.standing.Standing.{ShowsHistory}
 use Rattle.mg_heap.specs.Listed.{IsRecordOf}
 use Rattle.mg_heap.specs.ListedLaws.{page_of_record}
 use Rattle.mg_heap.specs.Stands.{TablesAreWalked}
@@ -26,10 +26,10 @@ use Rattle.mg_image.specs.Records.{Chain, Reading, cells_of, writer}
 use Rattle.mg_image.specs.Sound.{IsSoundBy, facts_by}
 use Rattle.mg_image.specs.Tables.{Has, Layout, Stand, stands_of, table_at}
 use Rattle.mg_image.specs.declared.entry.Entry.{Entry}
-use Rattle.mg_image_overlays.specs.Growing.{IsTableOf}
-use Rattle.mg_image_overlays.specs.Knowing.{its_pages}
-use Rattle.mg_image_overlays.specs.OneTable.{its_data, stands_in}
-use Rattle.mg_image_overlays.specs.TableOwners.{IsOneOf, named_other}
+use Rattle.mg_image_overlays.specs.tables.Growing.{IsTableOf}
+use Rattle.mg_image_overlays.specs.kept.Knowing.{its_pages}
+use Rattle.mg_image_overlays.specs.tables.OneTable.{its_data, stands_in}
+use Rattle.mg_image_overlays.specs.tables.TableOwners.{IsOneOf, named_other}
 use Rattle.mg_model.specs.Answers.{is_committed}
 use Rattle.mg_model.specs.Catalog.{catalog_name}
 use Rattle.mg_model.specs.Openings.{everyone}

@@ -14,10 +14,10 @@ use Rattle.mg_core.specs.Cores.{IsCore, IsRefusedBy}
 use Rattle.mg_core.specs.Refusing.{NamesLimit}
 use Rattle.mg_core.specs.declared.parts.Core.{Core}
 use Rattle.mg_core_collecting.specs.Places.{CollectsOn, CollectsPlace, CollectsSettled, FailsPlace, FailsSettled, IsSettled, collects, no_record, not_collected, not_looked, not_told, nothing_settled}
-use Rattle.mg_engine_changes.specs.Plain.{WritesKeepPlain}
-use Rattle.mg_engine_changes.specs.StageLaws.{fails_so, fault_may, left_geometry, own_left, own_tells, reads_so, so_then, told_of}
-use Rattle.mg_engine_changes.specs.Stages.{FailsReady, StaysSo, TellsOf}
-use Rattle.mg_engine_changes.specs.StopLaws.{fault_outer, risen}
+use Rattle.mg_engine_changes.specs.rows.Plain.{WritesKeepPlain}
+use Rattle.mg_engine_changes.specs.memory.StageLaws.{fails_so, fault_may, left_geometry, own_left, own_tells, reads_so, so_then, told_of}
+use Rattle.mg_engine_changes.specs.memory.Stages.{FailsReady, StaysSo, TellsOf}
+use Rattle.mg_engine_changes.specs.rows.StopLaws.{fault_outer, risen}
 use Rattle.mg_engine_meaning.specs.Counts.{HasCounts}
 use Rattle.mg_engine_meaning.specs.FrameLaws.{commits_of, is_apart, keeps_of, sessions_of, store_stands, tables_of, works_same}
 use Rattle.mg_engine_meaning.specs.Frames.{MayAnswer}
@@ -26,15 +26,15 @@ use Rattle.mg_engine_meaning.specs.Standings.{sessions_in}
 use Rattle.mg_engine_meaning.specs.StepLaws.{refused_none}
 use Rattle.mg_engine_meaning.specs.Steps.{AddsNone}
 use Rattle.mg_engine_meaning.specs.StillLaws.{still_quiet}
-use Rattle.mg_engine_steps.specs.Batches.{ReadsLast, RowsLastStill}
-use Rattle.mg_engine_steps.specs.ListShows.{ListsStay, TipsStayOn}
-use Rattle.mg_engine_steps.specs.PageWrites.{PageWritesFail}
+use Rattle.mg_engine_steps.specs.writes.Batches.{ReadsLast, RowsLastStill}
+use Rattle.mg_engine_steps.specs.commits.ListShows.{ListsStay, TipsStayOn}
+use Rattle.mg_engine_steps.specs.commits.PageWrites.{PageWritesFail}
 use Rattle.mg_generations.specs.Laws.{CoveredMayGo, ErasedMayGo}
 use Rattle.mg_heap.specs.Listed.{IsRecordOf}
 use Rattle.mg_heap.specs.Stands.{TablesAreWalked}
 use Rattle.mg_image.specs.Form.{packed_coding, packed_form}
 use Rattle.mg_image.specs.ReadingLaws.{RowsAreOne}
-use Rattle.mg_image_overlays.specs.OneLayout.{StandsOneWay}
+use Rattle.mg_image_overlays.specs.tables.OneLayout.{StandsOneWay}
 use Rattle.mg_lasting.specs.PoolLaws.{HoldsOne}
 use Rattle.mg_model.specs.Laws.{OpeningsBegin}
 use Rattle.mg_model.specs.Legal.{is_outer}

@@ -8,8 +8,8 @@ use Rattle.mg_base.specs.declared.transaction.TxState.{TxState}
 use Rattle.mg_collecting.specs.Steps.{CollectStep, FailsStep, Steps, drops_unneeded, not_dropped, not_read, not_taken_out, one_more, reads_on, starts, takes_dead, takes_erased}
 use Rattle.mg_core.specs.declared.parts.Core.{Core}
 use Rattle.mg_core_collecting.specs.Places.{CollectsPlace, CollectsSettled, FailsSettled, collects, no_record, not_collected, not_looked, not_told, nothing_settled}
-use Rattle.mg_engine_changes.specs.FaultPageLaws.{is_none, met, own_stands, own_told, told}
-use Rattle.mg_engine_changes.specs.Told.{Stands, TellsFaults, disk_count, is_disks}
+use Rattle.mg_engine_changes.specs.faults.FaultPageLaws.{is_none, met, own_stands, own_told, told}
+use Rattle.mg_engine_changes.specs.faults.Told.{Stands, TellsFaults, disk_count, is_disks}
 use Rattle.mg_faults.specs.Faults.{FaultCount}
 use Rattle.mg_model.specs.declared.refusal.Refusal.{Refusal}
 use Rattle.mg_model.specs.declared.table.Table.{Table}

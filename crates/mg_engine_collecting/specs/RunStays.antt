@@ -7,22 +7,22 @@ use Rattle.mg_base.specs.declared.geometry.Geometry.{Geometry}
 use Rattle.mg_base.specs.declared.numbers.RecId.{RecId}
 use Rattle.mg_base.specs.declared.transaction.TxState.{TxState}
 use Rattle.mg_collecting.specs.Steps.{CollectStep, Steps, drops_unneeded, one_more, reads_on, starts, takes_dead, takes_erased}
-use Rattle.mg_engine_changes.specs.Directories.{StaysKnown}
-use Rattle.mg_engine_changes.specs.MadeLaws.{StoreOn, on_then, own_on, read_on}
-use Rattle.mg_engine_changes.specs.Plain.{WritesKeepPlain}
-use Rattle.mg_engine_changes.specs.TipLaws.{tips_then}
-use Rattle.mg_engine_changes.specs.Tips.{KeepsTips}
-use Rattle.mg_engine_changes.specs.Walks.{OthersWalkOn}
+use Rattle.mg_engine_changes.specs.memory.Directories.{StaysKnown}
+use Rattle.mg_engine_changes.specs.rows.MadeLaws.{StoreOn, on_then, own_on, read_on}
+use Rattle.mg_engine_changes.specs.rows.Plain.{WritesKeepPlain}
+use Rattle.mg_engine_changes.specs.rows.TipLaws.{tips_then}
+use Rattle.mg_engine_changes.specs.rows.Tips.{KeepsTips}
+use Rattle.mg_engine_changes.specs.rows.Walks.{OthersWalkOn}
 use Rattle.mg_engine_meaning.specs.FrameLaws.{store_stands}
 use Rattle.mg_engine_meaning.specs.PlainTables.{HasPlainTables}
 use Rattle.mg_engine_meaning.specs.Standings.{HasTips}
-use Rattle.mg_engine_steps.specs.Batches.{ReadsLast, RowsLastStill}
-use Rattle.mg_engine_steps.specs.ListShows.{ListsStay, TipsStayOn}
-use Rattle.mg_engine_steps.specs.Standing.{Standing, Stands}
+use Rattle.mg_engine_steps.specs.writes.Batches.{ReadsLast, RowsLastStill}
+use Rattle.mg_engine_steps.specs.commits.ListShows.{ListsStay, TipsStayOn}
+use Rattle.mg_engine_steps.specs.standing.Standing.{Standing, Stands}
 use Rattle.mg_generations.specs.Laws.{CoveredMayGo, ErasedMayGo}
 use Rattle.mg_image.specs.Form.{Pages, packed_coding, packed_form}
 use Rattle.mg_image.specs.ReadingLaws.{RowsAreOne}
-use Rattle.mg_image_overlays.specs.OneLayout.{StandsOneWay}
+use Rattle.mg_image_overlays.specs.tables.OneLayout.{StandsOneWay}
 use Rattle.mg_lasting.specs.Crashes.{HoldsAcknowledged, LeavesSince}
 use Rattle.mg_lasting.specs.Lasting.{LastsOn}
 use Rattle.mg_lasting.specs.PoolLaws.{HoldsOne}

@@ -9,8 +9,8 @@ use Rattle.mg_generations.specs.Laws.{CoveredMayGo, ErasedMayGo}
 use Rattle.mg_image.specs.RecordRules.{Each}
 use Rattle.mg_image.specs.Records.{record_key, writer}
 use Rattle.mg_image.specs.declared.entry.Entry.{Entry}
-use Rattle.mg_image_overlays.specs.Fronts.{is_dead, living}
-use Rattle.mg_image_overlays.specs.Skips.{with_back}
+use Rattle.mg_image_overlays.specs.records.Fronts.{is_dead, living}
+use Rattle.mg_image_overlays.specs.records.Skips.{with_back}
 use Rattle.mg_model.specs.Answers.{is_active, told}
 use Rattle.mg_model.specs.History.{Entries}
 use Rattle.mg_model.specs.Machine.{state_of}

@@ -17,26 +17,26 @@ use Rattle.mg_collect_ties.specs.Chains.{IsNext}
 use Rattle.mg_collect_ties.specs.DropTies.{DropsPages, HasCommittedAt, drop_pages, next, put_view as dropped_put}
 use Rattle.mg_collect_ties.specs.TakeTies.{taken_pages, turned_view as taken_turned}
 use Rattle.mg_collecting.specs.Steps.{CollectStep, DropsUnneeded, drops_unneeded, takes_dead, takes_erased}
-use Rattle.mg_engine_changes.specs.Directories.{StaysKnown}
-use Rattle.mg_engine_changes.specs.RecordChanges.{back_known}
-use Rattle.mg_engine_changes.specs.OwnerLaws.{committed_only}
-use Rattle.mg_engine_changes.specs.Plain.{WritesKeepPlain}
-use Rattle.mg_engine_changes.specs.TipLaws.{two_tips}
-use Rattle.mg_engine_changes.specs.Tips.{KeepsTips}
-use Rattle.mg_engine_changes.specs.WalkLaws.{same_walk_on, unseen}
-use Rattle.mg_engine_changes.specs.Walks.{OthersWalkOn}
+use Rattle.mg_engine_changes.specs.memory.Directories.{StaysKnown}
+use Rattle.mg_engine_changes.specs.memory.RecordChanges.{back_known}
+use Rattle.mg_engine_changes.specs.rows.OwnerLaws.{committed_only}
+use Rattle.mg_engine_changes.specs.rows.Plain.{WritesKeepPlain}
+use Rattle.mg_engine_changes.specs.rows.TipLaws.{two_tips}
+use Rattle.mg_engine_changes.specs.rows.Tips.{KeepsTips}
+use Rattle.mg_engine_changes.specs.rows.WalkLaws.{same_walk_on, unseen}
+use Rattle.mg_engine_changes.specs.rows.Walks.{OthersWalkOn}
 use Rattle.mg_engine_meaning.specs.PlainTables.{HasPlainTables}
 use Rattle.mg_engine_meaning.specs.Standings.{HasTips}
-use Rattle.mg_engine_steps.specs.Batches.{RowsLastStill}
-use Rattle.mg_engine_steps.specs.Caches.{kept_from, row_changed}
-use Rattle.mg_engine_steps.specs.Choices.{placed}
-use Rattle.mg_engine_steps.specs.GoesOnLaws.{pool_is_kept, taking_out_is_read}
-use Rattle.mg_engine_steps.specs.Knowing.{WasChanged}
-use Rattle.mg_engine_steps.specs.ListShows.{ListsStay, TipsStayOn}
-use Rattle.mg_engine_steps.specs.Standing.{ShowsHistory, Standing, Stands}
-use Rattle.mg_engine_steps.specs.Writes.{ReadsAfter}
-use Rattle.mg_engine_steps.specs.WritesLaws.{finds_on}
-use Rattle.mg_engine_steps.specs.WrittenTablePagesLaws.{taking_out_keeps_pages}
+use Rattle.mg_engine_steps.specs.writes.Batches.{RowsLastStill}
+use Rattle.mg_engine_steps.specs.writes.Caches.{kept_from, row_changed}
+use Rattle.mg_engine_steps.specs.standing.Choices.{placed}
+use Rattle.mg_engine_steps.specs.writes.GoesOnLaws.{pool_is_kept, taking_out_is_read}
+use Rattle.mg_engine_steps.specs.writes.Knowing.{WasChanged}
+use Rattle.mg_engine_steps.specs.commits.ListShows.{ListsStay, TipsStayOn}
+use Rattle.mg_engine_steps.specs.standing.Standing.{ShowsHistory, Standing, Stands}
+use Rattle.mg_engine_steps.specs.writes.Writes.{ReadsAfter}
+use Rattle.mg_engine_steps.specs.writes.WritesLaws.{finds_on}
+use Rattle.mg_engine_steps.specs.writes.WrittenTablePagesLaws.{taking_out_keeps_pages}
 use Rattle.mg_generations.specs.Kept.{IsSeenByAll}
 use Rattle.mg_generations.specs.Laws.{CoveredMayGo, ErasedMayGo}
 use Rattle.mg_image.specs.Catalog.{IsNamed}
@@ -47,17 +47,17 @@ use Rattle.mg_image.specs.Records.{Chain, Reading, cells_of, ended, goes, newest
 use Rattle.mg_image.specs.Sound.{IsSoundBy, facts_by}
 use Rattle.mg_image.specs.Tables.{Layout, Stand, stands_of, table_at}
 use Rattle.mg_image.specs.declared.entry.Entry.{Entry}
-use Rattle.mg_image_overlays.specs.BackPart.{TakesOutPages}
-use Rattle.mg_image_overlays.specs.DataKept.{IsDataChanged, data_more, data_self}
-use Rattle.mg_image_overlays.specs.DataPages.{ChangesData}
-use Rattle.mg_image_overlays.specs.Fronts.{is_dead}
-use Rattle.mg_image_overlays.specs.Growing.{IsTableOf}
-use Rattle.mg_image_overlays.specs.KeptImages.{AreFrontStands, IsKept, IsFrontOf}
-use Rattle.mg_image_overlays.specs.Kinds.{HasNoSequences}
-use Rattle.mg_image_overlays.specs.OneLayout.{StandsOneWay}
-use Rattle.mg_image_overlays.specs.OneTable.{table_at_stands}
-use Rattle.mg_image_overlays.specs.OwnVersion.{FindsNewest}
-use Rattle.mg_image_overlays.specs.Skips.{skip_at, with_back}
+use Rattle.mg_image_overlays.specs.records.BackPart.{TakesOutPages}
+use Rattle.mg_image_overlays.specs.pages.DataKept.{IsDataChanged, data_more, data_self}
+use Rattle.mg_image_overlays.specs.pages.DataPages.{ChangesData}
+use Rattle.mg_image_overlays.specs.records.Fronts.{is_dead}
+use Rattle.mg_image_overlays.specs.tables.Growing.{IsTableOf}
+use Rattle.mg_image_overlays.specs.kept.KeptImages.{AreFrontStands, IsKept, IsFrontOf}
+use Rattle.mg_image_overlays.specs.pages.Kinds.{HasNoSequences}
+use Rattle.mg_image_overlays.specs.tables.OneLayout.{StandsOneWay}
+use Rattle.mg_image_overlays.specs.tables.OneTable.{table_at_stands}
+use Rattle.mg_image_overlays.specs.records.OwnVersion.{FindsNewest}
+use Rattle.mg_image_overlays.specs.records.Skips.{skip_at, with_back}
 use Rattle.mg_lasting.specs.Crashes.{HoldsAcknowledged, LeavesSince}
 use Rattle.mg_lasting.specs.Lasting.{LastsOn}
 use Rattle.mg_model.specs.Answers.{is_active, is_committed, told}

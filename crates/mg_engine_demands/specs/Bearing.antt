@@ -14,7 +14,7 @@ use Rattle.mg_model.specs.Answers.{is_active, is_committed}
 use Rattle.mg_model.specs.declared.table.Table.{Table}
 use Rattle.mg_space.specs.Demands.{demands_of, meets_of}
 use Rattle.mg_space.specs.declared.links.TheConstants.{HEADER, NEXT, VERSION}
-use Rattle.mg_image_overlays.specs.Growing.{IsTableOf}
+use Rattle.mg_image_overlays.specs.tables.Growing.{IsTableOf}
 use Rattle.mg_demands.specs.Wanting.{want_of}
 use Rattle.mg_demands.specs.BatchSteps.{HasLasting}
 use Rattle.mg_demands.specs.Wants.{WantsPointer}

@@ -15,7 +15,7 @@ use Rattle.mg_model.specs.declared.table.Table.{Table}
 use Rattle.mg_space.specs.Demands.{demands_of, meets_of}
 use Rattle.mg_space.specs.Taking.{region_of}
 use Rattle.mg_space.specs.declared.links.TheConstants.{BIT, HEADER, NEXT, POINTER, VERSION}
-use Rattle.mg_image_overlays.specs.Growing.{IsTableOf}
+use Rattle.mg_image_overlays.specs.tables.Growing.{IsTableOf}
 use Rattle.mg_demands.specs.VersionLaws.{may_is_version}
 use Rattle.mg_demands.specs.Wanting.{may_go, want_of}
 use Rattle.mg_demands.specs.WantingLaws.{either_cases, in_one, in_other}

@@ -7,7 +7,7 @@ use Rattle.mg_image.specs.Tables.{Layout}
 use Rattle.mg_model.specs.Answers.{is_committed}
 use Rattle.mg_model.specs.declared.table.Table.{Table}
 use Rattle.mg_space.specs.declared.links.TheConstants.{NEXT}
-use Rattle.mg_image_overlays.specs.Growing.{IsTableOf}
+use Rattle.mg_image_overlays.specs.tables.Growing.{IsTableOf}
 use Rattle.mg_demands.specs.Wanting.{want_of}
 use Rattle.mg_engine_demands.specs.Bearing.{Fates, IsBorne, Marks, asks}
 

@@ -32,7 +32,7 @@ use Rattle.mg_txlist.specs.TxList.{next_said, tip_in}
 use Rattle.mg_txlist.specs.declared.list.TipPage.{TipPage}
 use Rattle.mg_txlist.specs.declared.list.TxList.{TxList}
 use Rattle.mg_ties.specs.DrawTies.{DrawsFrom}
-use Rattle.mg_image_overlays.specs.Rest.{div_grows}
+use Rattle.mg_image_overlays.specs.kept.Rest.{div_grows}
 use Rattle.mg_demands.specs.KindLaws.{tip_kind}
 use Rattle.mg_demands.specs.Met.{has_back, in_listed, of_listed}
 use Rattle.mg_demands.specs.Wanting.{IsWanting, want_of}

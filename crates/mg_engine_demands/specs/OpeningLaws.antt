@@ -21,7 +21,7 @@ use Rattle.mg_demands.specs.Roots.{SoundIsWanted, WantsFrom, index_roots, roots_
 use Rattle.mg_space.specs.Demands.{bit_demand, demand, linked}
 use Rattle.mg_space.specs.Taking.{region_of}
 use Rattle.mg_space.specs.declared.links.TheConstants.{BIT, HEADER, POINTER, TREE, VERSION}
-use Rattle.mg_image_overlays.specs.Growing.{IsTableOf}
+use Rattle.mg_image_overlays.specs.tables.Growing.{IsTableOf}
 use Rattle.mg_demands.specs.Met.{has_back, has_either, has_front, is_demand, of_listed}
 use Rattle.mg_demands.specs.Wanting.{want_of}
 use Rattle.mg_demands.specs.TableTies.{bit_wanted, demand_there}

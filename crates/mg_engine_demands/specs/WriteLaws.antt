@@ -21,7 +21,7 @@ use Rattle.mg_batches.specs.Batches.{nothing_yet}
 use Rattle.mg_space.specs.Taking.{region_of}
 use Rattle.mg_space.specs.View.{viewed}
 use Rattle.mg_space.specs.declared.links.TheConstants.{BIT, POINTER}
-use Rattle.mg_image_overlays.specs.Growing.{IsTableOf}
+use Rattle.mg_image_overlays.specs.tables.Growing.{IsTableOf}
 use Rattle.mg_space.specs.declared.links.FireLinks.{FireLinks}
 use Rattle.mg_demands.specs.Met.{in_listed, of_listed}
 use Rattle.mg_demands.specs.Wanting.{want_of}

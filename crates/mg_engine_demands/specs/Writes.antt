@@ -20,7 +20,7 @@ use Rattle.mg_pool.specs.declared.pool.Pool.{Pool}
 use Rattle.mg_batches.specs.Batches.{nothing_yet}
 use Rattle.mg_space.specs.Taking.{IsGeometry}
 use Rattle.mg_space.specs.declared.links.FireLinks.{FireLinks}
-use Rattle.mg_image_overlays.specs.Growing.{IsTableOf}
+use Rattle.mg_image_overlays.specs.tables.Growing.{IsTableOf}
 use Rattle.mg_table_batch.specs.Filling.{FillsTable}
 use Rattle.mg_value.specs.declared.shape.Shape.{Shape}
 use Rattle.mg_version.specs.declared.cell.Version.{Version}

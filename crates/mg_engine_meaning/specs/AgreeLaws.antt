@@ -8,9 +8,9 @@ use Rattle.mg_image.specs.ReadingLaws.{RowsAreOne}
 use Rattle.mg_image.specs.Records.{Reading}
 use Rattle.mg_image.specs.Sound.{IsSoundBy}
 use Rattle.mg_image.specs.Tables.{Layout}
-use Rattle.mg_image_overlays.specs.Growing.{IsTableOf}
-use Rattle.mg_image_overlays.specs.OneTable.{one_standing, one_table, stands_in}
-use Rattle.mg_image_overlays.specs.TableOwners.{IsOneOf}
+use Rattle.mg_image_overlays.specs.tables.Growing.{IsTableOf}
+use Rattle.mg_image_overlays.specs.tables.OneTable.{one_standing, one_table, stands_in}
+use Rattle.mg_image_overlays.specs.tables.TableOwners.{IsOneOf}
 use Rattle.mg_model.specs.Legal.{IsLegal, MayBegin, is_limbo}
 use Rattle.mg_model.specs.History.{Entries}
 use Rattle.mg_model.specs.Openings.{everyone}
@@ -18,10 +18,10 @@ use Rattle.mg_model.specs.declared.opening.Opening.{Opening}
 use Rattle.mg_model.specs.declared.table.Table.{Table}
 use Rattle.mg_noted.specs.ChoiceTables.{tables_are}
 use Rattle.mg_overlays.specs.Overlays.{left_state}
-use Rattle.mg_engine_steps.specs.ChosenTables.{ChosenTablesStand}
-use Rattle.mg_engine_steps.specs.Known.{KnowsPages}
-use Rattle.mg_engine_steps.specs.SameRecords.{catalog_stands}
-use Rattle.mg_engine_steps.specs.Standing.{Standing}
+use Rattle.mg_engine_steps.specs.tables.ChosenTables.{ChosenTablesStand}
+use Rattle.mg_engine_steps.specs.standing.Known.{KnowsPages}
+use Rattle.mg_engine_steps.specs.tables.SameRecords.{catalog_stands}
+use Rattle.mg_engine_steps.specs.standing.Standing.{Standing}
 use Rattle.mg_engine_meaning.specs.PlainTables.{IndexesAgree}
 
 -- where rows of the catalog are only made, tables have the same indexes, whoever is chosen

@@ -17,9 +17,9 @@ use Rattle.mg_image.specs.declared.entry.Entry.{Entry}
 use Rattle.mg_image.specs.Catalog.{IsSameTable}
 use Rattle.mg_image.specs.RecordRules.{Facts, table_in}
 use Rattle.mg_image.specs.Records.{Reading, key_of, record_key, writer}
-use Rattle.mg_image_overlays.specs.Fronts.{living}
+use Rattle.mg_image_overlays.specs.records.Fronts.{living}
 use Rattle.mg_seek.specs.Histories.{told_versions}
-use Rattle.mg_engine_steps.specs.Versions.{HaveVersions, SpeaksFor, SpeaksOrSilent, told_version}
+use Rattle.mg_engine_steps.specs.standing.Versions.{HaveVersions, SpeaksFor, SpeaksOrSilent, told_version}
 use Rattle.mg_engine_meaning.specs.Falling.{HasAlike}
 
 told_same : (x y : Table) → IsSameTable x y → (e : Entry) → told_version x e ≡ told_version y e

@@ -15,16 +15,16 @@ use Rattle.mg_model.specs.declared.refusal.Refusal.TheVariants.{Memory, Offline,
 use Rattle.mg_model.specs.History.{Entries, entry}
 use Rattle.mg_model.specs.Legal.{IsLawful}
 use Rattle.mg_model.specs.Machine.{next_number}
-use Rattle.mg_engine_steps.specs.PageWrites.{PageWritesFail}
-use Rattle.mg_engine_steps.specs.Idle.{IdleGoesOn}
-use Rattle.mg_engine_steps.specs.Batches.{ReadsLast}
+use Rattle.mg_engine_steps.specs.commits.PageWrites.{PageWritesFail}
+use Rattle.mg_engine_steps.specs.commits.Idle.{IdleGoesOn}
+use Rattle.mg_engine_steps.specs.writes.Batches.{ReadsLast}
 use Rattle.mg_image.specs.Form.{packed_form}
 use Rattle.mg_lasting.specs.Changing.{QuietHolds}
 use Rattle.mg_records.specs.Adding.{drawn_in, number_or}
 use Rattle.mg_records.specs.Keeping.{refusal_in}
 use Rattle.mg_records.specs.Sessions.{begun_in}
 use Rattle.mg_space.specs.declared.links.FireLinks.{FireLinks}
-use Rattle.mg_engine_steps.specs.Following.{StandsOn}
+use Rattle.mg_engine_steps.specs.standing.Following.{StandsOn}
 use Rattle.mg_txlist.specs.TxList.{next_said}
 use Rattle.mg_works.specs.Works.{has_session}
 use Rattle.mg_core.specs.declared.parts.Core.{Core}

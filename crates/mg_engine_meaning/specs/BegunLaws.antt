@@ -24,26 +24,26 @@ use Rattle.mg_model.specs.Legal.{IsLawful, IsLegal, MayBegin}
 use Rattle.mg_model.specs.Machine.{deeds_by, is_of, mode_of, next_number, state_of, steps}
 use Rattle.mg_model.specs.NumberLaws.{undrawn_has_no_deeds, undrawn_is_dead}
 use Rattle.mg_model.specs.Openings.{everyone}
-use Rattle.mg_engine_steps.specs.Walking.{AreToCome, WalkPlace}
-use Rattle.mg_engine_steps.specs.ListShows.{DrawsKeepList}
-use Rattle.mg_engine_steps.specs.Begins.{BeginsGoOn, DrawsStaySound}
-use Rattle.mg_engine_steps.specs.GoesOn.{HasGoneOn}
-use Rattle.mg_engine_steps.specs.Finding.{BeginFinds, BeginHasTables, TablesFor}
-use Rattle.mg_engine_steps.specs.Alike.{OthersTakeAlike, WalksStayOver}
-use Rattle.mg_engine_steps.specs.Lawful.{DatabasesAreLawful}
-use Rattle.mg_image_overlays.specs.Growing.{IsTableOf}
+use Rattle.mg_engine_steps.specs.reads.Walking.{AreToCome, WalkPlace}
+use Rattle.mg_engine_steps.specs.commits.ListShows.{DrawsKeepList}
+use Rattle.mg_engine_steps.specs.commits.Begins.{BeginsGoOn, DrawsStaySound}
+use Rattle.mg_engine_steps.specs.writes.GoesOn.{HasGoneOn}
+use Rattle.mg_engine_steps.specs.tables.Finding.{BeginFinds, BeginHasTables, TablesFor}
+use Rattle.mg_engine_steps.specs.reads.Alike.{OthersTakeAlike, WalksStayOver}
+use Rattle.mg_engine_steps.specs.tables.Lawful.{DatabasesAreLawful}
+use Rattle.mg_image_overlays.specs.tables.Growing.{IsTableOf}
 use Rattle.mg_image.specs.Form.{Pages, packed_coding, packed_form}
 use Rattle.mg_image.specs.Inventory.{next_of}
 use Rattle.mg_image.specs.ReadingLaws.{RowsAreOne}
 use Rattle.mg_image.specs.Records.{Reading}
 use Rattle.mg_image.specs.Sound.{IsSoundBy}
 use Rattle.mg_image.specs.Tables.{Layout}
-use Rattle.mg_image_overlays.specs.Begins.{begin_sound}
-use Rattle.mg_image_overlays.specs.KeptImages.{IsKept, keeping}
+use Rattle.mg_image_overlays.specs.transactions.Begins.{begin_sound}
+use Rattle.mg_image_overlays.specs.kept.KeptImages.{IsKept, keeping}
 use Rattle.mg_lasting.specs.Crashes.{HoldsAcknowledged, LeavesSince}
 use Rattle.mg_lasting.specs.Lasting.{LastsOn}
 use Rattle.mg_lasting.specs.PoolLaws.{HoldsOne}
-use Rattle.mg_image_overlays.specs.OneLayout.{StandsOneWay}
+use Rattle.mg_image_overlays.specs.tables.OneLayout.{StandsOneWay}
 use Rattle.mg_noted.specs.ComingLaws.{stayed_has}
 use Rattle.mg_directory.specs.Candidates.{by_table}
 use Rattle.mg_overlays.specs.BatchLaws.{good_of_pool}
@@ -55,9 +55,9 @@ use Rattle.mg_records.specs.Keeping.{WalksStay}
 use Rattle.mg_records.specs.Reading.{shape_seen}
 use Rattle.mg_snap.specs.Live.{after_enter}
 use Rattle.mg_space.specs.declared.links.FireLinks.{FireLinks}
-use Rattle.mg_engine_steps.specs.Following.{FollowsEntry}
-use Rattle.mg_engine_steps.specs.QuietPages.{StaySound}
-use Rattle.mg_engine_steps.specs.Standing.{IsSeenAs, RemembersOne, Standing, Stands}
+use Rattle.mg_engine_steps.specs.standing.Following.{FollowsEntry}
+use Rattle.mg_engine_steps.specs.standing.QuietPages.{StaySound}
+use Rattle.mg_engine_steps.specs.standing.Standing.{IsSeenAs, RemembersOne, Standing, Stands}
 use Rattle.mg_txlist.specs.Drawing.{AddsNumber, DrawsIn}
 use Rattle.mg_txlist.specs.TxList.{IsTxList, next_said, said}
 use Rattle.mg_txlist.specs.declared.list.TxList.{TxList}

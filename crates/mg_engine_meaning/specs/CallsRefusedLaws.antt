@@ -14,7 +14,7 @@ use Rattle.mg_model.specs.declared.table.Table.{Table}
 use Rattle.mg_model.specs.Changes.{KeyedRows}
 use Rattle.mg_model.specs.History.{Entries, Entry, entry}
 use Rattle.mg_model.specs.Legal.{IsLawful}
-use Rattle.mg_engine_steps.specs.Idle.{IdleGoesOn}
+use Rattle.mg_engine_steps.specs.commits.Idle.{IdleGoesOn}
 use Rattle.mg_image.specs.Form.{Pages, packed_form}
 use Rattle.mg_lasting.specs.Changing.{QuietHolds}
 use Rattle.mg_pool.specs.Pool.{shown}
@@ -22,8 +22,8 @@ use Rattle.mg_records.specs.Crashing.{LeavesQuietly}
 use Rattle.mg_records.specs.Keeping.{Reads}
 use Rattle.mg_records.specs.Sessions.{SessionsStay}
 use Rattle.mg_space.specs.declared.links.FireLinks.{FireLinks}
-use Rattle.mg_engine_steps.specs.Following.{FollowsEntry, StandsOn}
-use Rattle.mg_engine_steps.specs.Standing.{Standing, Stands}
+use Rattle.mg_engine_steps.specs.standing.Following.{FollowsEntry, StandsOn}
+use Rattle.mg_engine_steps.specs.standing.Standing.{Standing, Stands}
 use Rattle.mg_txlist.specs.Drawing.{SaysSame}
 use Rattle.mg_txlist.specs.TxList.{next_said, no_page, said, tip_in}
 use Rattle.mg_txlist.specs.declared.list.TipPage.{TipPage}

@@ -10,21 +10,21 @@ use Rattle.mg_base.specs.declared.geometry.Geometry.{Geometry}
 use Rattle.mg_base.specs.declared.numbers.TxNo.{TxNo}
 use Rattle.mg_base.specs.declared.transaction.TxState.{TxState}
 use Rattle.mg_base.specs.declared.transaction.TxState.TheVariants.{Active, Committed, Limbo}
-use Rattle.mg_engine_steps.specs.Walking.{AreToCome, WalkPlace}
-use Rattle.mg_engine_steps.specs.Commits.{CommitsGoOn, CommitsOver, HasEnded, HasNoneLeft}
-use Rattle.mg_engine_steps.specs.TipPages.{SetsBits, bits_stay_sound, no_header, page_is, within_last}
-use Rattle.mg_engine_steps.specs.GoesOn.{PoolIsKept}
-use Rattle.mg_engine_steps.specs.Finding.{CommitFinds}
-use Rattle.mg_engine_steps.specs.Alike.{DataPagesStay, OthersTakeAlike, WalksStayOver}
-use Rattle.mg_image_overlays.specs.Growing.{IsTableOf}
+use Rattle.mg_engine_steps.specs.reads.Walking.{AreToCome, WalkPlace}
+use Rattle.mg_engine_steps.specs.commits.Commits.{CommitsGoOn, CommitsOver, HasEnded, HasNoneLeft}
+use Rattle.mg_engine_steps.specs.commits.TipPages.{SetsBits, bits_stay_sound, no_header, page_is, within_last}
+use Rattle.mg_engine_steps.specs.writes.GoesOn.{PoolIsKept}
+use Rattle.mg_engine_steps.specs.tables.Finding.{CommitFinds}
+use Rattle.mg_engine_steps.specs.reads.Alike.{DataPagesStay, OthersTakeAlike, WalksStayOver}
+use Rattle.mg_image_overlays.specs.tables.Growing.{IsTableOf}
 use Rattle.mg_image.specs.Form.{Pages, packed_form}
 use Rattle.mg_image.specs.Inventory.{header_of, next_of, tip_page}
 use Rattle.mg_image.specs.Records.{Reading}
 use Rattle.mg_image.specs.Sound.{IsSoundBy}
 use Rattle.mg_image.specs.Tables.{Layout}
-use Rattle.mg_image_overlays.specs.CommitSound.{commit_sound, committing}
-use Rattle.mg_image_overlays.specs.DataPages.{kind_of}
-use Rattle.mg_image_overlays.specs.KeptImages.{IsKept}
+use Rattle.mg_image_overlays.specs.transactions.CommitSound.{commit_sound, committing}
+use Rattle.mg_image_overlays.specs.pages.DataPages.{kind_of}
+use Rattle.mg_image_overlays.specs.kept.KeptImages.{IsKept}
 use Rattle.mg_lasting.specs.Crashes.{HoldsFrom, LeavesHistory, asked}
 use Rattle.mg_lasting.specs.Lasting.{Lasts}
 use Rattle.mg_lasting.specs.PoolLaws.{HoldsOne}
@@ -39,7 +39,7 @@ use Rattle.mg_model.specs.Legal.{IsLawful, durable_count}
 use Rattle.mg_model.specs.Machine.{is_of, next_number, state_of}
 use Rattle.mg_model.specs.NumberLaws.{undrawn_is_dead}
 use Rattle.mg_model.specs.Openings.{everyone}
-use Rattle.mg_image_overlays.specs.OneLayout.{StandsOneWay}
+use Rattle.mg_image_overlays.specs.tables.OneLayout.{StandsOneWay}
 use Rattle.mg_noted.specs.ComingLaws.{stayed_has}
 use Rattle.mg_directory.specs.Candidates.{by_table}
 use Rattle.mg_overlays.specs.Overlays.{left_by as counts_by, left_state}
@@ -52,8 +52,8 @@ use Rattle.mg_records.specs.Keeping.{WalksStay}
 use Rattle.mg_space.specs.ViewLaws.{keeps_itself}
 use Rattle.mg_space.specs.declared.links.FireLinks.{FireLinks}
 use Rattle.mg_ties.specs.Changed.{BatchIsChanged, changed_batches_are}
-use Rattle.mg_engine_steps.specs.Following.{FollowsEntry}
-use Rattle.mg_engine_steps.specs.Standing.{Stands}
+use Rattle.mg_engine_steps.specs.standing.Following.{FollowsEntry}
+use Rattle.mg_engine_steps.specs.standing.Standing.{Stands}
 use Rattle.mg_tip.specs.TipPage.{places as tip_places, tip_checks}
 use Rattle.mg_txlist.specs.Ending.{CommitsBits, header_first}
 use Rattle.mg_txlist.specs.TxList.{EndsIn, said, tip_in}

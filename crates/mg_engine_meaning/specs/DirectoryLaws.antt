@@ -8,18 +8,18 @@ use Rattle.mg_core.specs.Noting.{MakesDirectory}
 use Rattle.mg_core.specs.Writing.{KnowsKey}
 use Rattle.mg_core.specs.declared.parts.Core.{Core}
 use Rattle.mg_directory.specs.Candidates.{ByKey, Kept, at_key, by_table}
-use Rattle.mg_engine_steps.specs.Known.{IsShown}
-use Rattle.mg_engine_steps.specs.Standing.{Standing, Stands}
+use Rattle.mg_engine_steps.specs.standing.Known.{IsShown}
+use Rattle.mg_engine_steps.specs.standing.Standing.{Standing, Stands}
 use Rattle.mg_heap.specs.Stands.{TablesAreWalked}
 use Rattle.mg_image.specs.Form.{Pages, packed_form}
 use Rattle.mg_image.specs.Sound.{facts_by}
-use Rattle.mg_image_overlays.specs.OneLayout.{StandsOneWay}
+use Rattle.mg_image_overlays.specs.tables.OneLayout.{StandsOneWay}
 use Rattle.mg_model.specs.History.{Entries}
 use Rattle.mg_model.specs.Laws.{OpeningsBegin}
 use Rattle.mg_model.specs.Openings.{everyone}
 use Rattle.mg_model.specs.declared.opening.Opening.{Opening}
 use Rattle.mg_model.specs.declared.table.Table.{Table}
-use Rattle.mg_engine_steps.specs.Batches.{ReadsLast}
+use Rattle.mg_engine_steps.specs.writes.Batches.{ReadsLast}
 use Rattle.mg_noted.specs.ComingLaws.{noted_by}
 use Rattle.mg_noted.specs.EnoughLaws.{enough_in_layout}
 use Rattle.mg_noted.specs.MadeLaws.{built_in_layout}

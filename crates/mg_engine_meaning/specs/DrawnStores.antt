@@ -14,7 +14,7 @@ use Rattle.mg_image.specs.ReadingLaws.{RowsAreOne}
 use Rattle.mg_image.specs.Records.{Reading}
 use Rattle.mg_image.specs.Sound.{HasHeader, IsSoundBy}
 use Rattle.mg_image.specs.Tables.{Layout}
-use Rattle.mg_image_overlays.specs.DataPages.{kind_of}
+use Rattle.mg_image_overlays.specs.pages.DataPages.{kind_of}
 use Rattle.mg_pool.specs.Dirty.{DirtyPages, is_marked}
 use Rattle.mg_pool.specs.Pool.{shown}
 use Rattle.mg_pool.specs.Run.{TimeGoesOn}
@@ -28,11 +28,11 @@ use Rattle.mg_txlist.specs.TxList.{next_said}
 use Rattle.mg_txlist.specs.declared.list.TipPage.{TipPage}
 use Rattle.mg_txlist.specs.declared.list.TxList.{TxList}
 use Rattle.mg_ties.specs.DrawTies.{DrawsFrom, raised_is, tip_occupied}
-use Rattle.mg_engine_steps.specs.DrawnPages.{view_is}
+use Rattle.mg_engine_steps.specs.commits.DrawnPages.{view_is}
 use Rattle.mg_engine_meaning.specs.Frames.{StoreGoesOn}
 use Rattle.mg_engine_meaning.specs.ReadLaws.{reads_go}
 use Rattle.mg_engine_meaning.specs.StepLaws.{run_goes, time_then, unmarked_run}
-use Rattle.mg_engine_steps.specs.Alike.{DataPagesStay}
+use Rattle.mg_engine_steps.specs.reads.Alike.{DataPagesStay}
 
 -- ---- the store
 

@@ -26,7 +26,7 @@ use Rattle.mg_model.specs.Legal.{IsLawful, is_durable, is_lasting}
 use Rattle.mg_model.specs.declared.change.Step.{Step}
 use Rattle.mg_model.specs.Machine.{base, database, deeds_by, is_of, mode_of, next_after, own, state_after, state_of, step, steps, takes_base, view, waited_on}
 use Rattle.mg_chain.specs.Bases.{live_after}
-use Rattle.mg_engine_steps.specs.Idle.{IdleGoesOn}
+use Rattle.mg_engine_steps.specs.commits.Idle.{IdleGoesOn}
 use Rattle.mg_image.specs.Form.{packed_form}
 use Rattle.mg_lasting.specs.Changing.{QuietHolds}
 use Rattle.mg_lasting.specs.Crashes.{is_failed_write, may_last}
@@ -39,8 +39,8 @@ use Rattle.mg_records.specs.Reading.{FindAdds, shape_named}
 use Rattle.mg_records.specs.Sessions.{SessionsStay}
 use Rattle.mg_space.specs.declared.links.FireLinks.{FireLinks}
 use Rattle.mg_pool_overlays.specs.Needs.{Asked, Sessions}
-use Rattle.mg_engine_steps.specs.Following.{FollowsEntry, Notes, StandsOn}
-use Rattle.mg_engine_steps.specs.Standing.{IsSeenAs, RemembersOne}
+use Rattle.mg_engine_steps.specs.standing.Following.{FollowsEntry, Notes, StandsOn}
+use Rattle.mg_engine_steps.specs.standing.Standing.{IsSeenAs, RemembersOne}
 use Rattle.mg_txlist.specs.TxList.{next_said, said}
 use Rattle.mg_undo.specs.Machine.{NotesDeeds, undo_of}
 use Rattle.mg_undo.specs.Undo.{State as Undo, after_point}

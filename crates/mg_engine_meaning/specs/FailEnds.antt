@@ -7,11 +7,11 @@ use Rattle.mg_base.specs.Image.{Image}
 use Rattle.mg_base.specs.declared.geometry.Geometry.{Geometry}
 use Rattle.mg_base.specs.declared.numbers.TxNo.{TxNo}
 use Rattle.mg_base.specs.declared.transaction.TxState.TheVariants.{Active, Dead}
-use Rattle.mg_engine_steps.specs.Commits.{CommitsFail, CommitsGoOn, HasFailed, HasNoneLeft}
-use Rattle.mg_engine_steps.specs.Idle.{IdleGoesOn}
-use Rattle.mg_engine_steps.specs.GoesOn.{PoolIsKept}
-use Rattle.mg_engine_steps.specs.Finding.{CommitFinds}
-use Rattle.mg_engine_steps.specs.Alike.{OthersTakeAlike, WalksStayOver}
+use Rattle.mg_engine_steps.specs.commits.Commits.{CommitsFail, CommitsGoOn, HasFailed, HasNoneLeft}
+use Rattle.mg_engine_steps.specs.commits.Idle.{IdleGoesOn}
+use Rattle.mg_engine_steps.specs.writes.GoesOn.{PoolIsKept}
+use Rattle.mg_engine_steps.specs.tables.Finding.{CommitFinds}
+use Rattle.mg_engine_steps.specs.reads.Alike.{OthersTakeAlike, WalksStayOver}
 use Rattle.mg_image.specs.Form.{packed_form}
 use Rattle.mg_image.specs.Inventory.{next_of}
 use Rattle.mg_lasting.specs.Changing.{QuietHolds}
@@ -27,7 +27,7 @@ use Rattle.mg_model.specs.Laws.{OpeningsBegin}
 use Rattle.mg_model.specs.Legal.{durable_count}
 use Rattle.mg_model.specs.Machine.{next_number}
 use Rattle.mg_model.specs.NumberLaws.{undrawn_is_dead}
-use Rattle.mg_image_overlays.specs.OneLayout.{StandsOneWay}
+use Rattle.mg_image_overlays.specs.tables.OneLayout.{StandsOneWay}
 use Rattle.mg_pool.specs.Fault.{OnlyWrites, TellsFault}
 use Rattle.mg_pool.specs.Pool.{shown}
 use Rattle.mg_pool.specs.declared.fault.PoolFault.{PoolFault}
@@ -38,8 +38,8 @@ use Rattle.mg_records.specs.Crashing.{LeavesWith}
 use Rattle.mg_records.specs.Keeping.{WalksStay, refusal_in}
 use Rattle.mg_records.specs.Sessions.{ended_in}
 use Rattle.mg_space.specs.declared.links.FireLinks.{FireLinks}
-use Rattle.mg_engine_steps.specs.Following.{FollowsEntry, StandsOn}
-use Rattle.mg_engine_steps.specs.Standing.{Stands}
+use Rattle.mg_engine_steps.specs.standing.Following.{FollowsEntry, StandsOn}
+use Rattle.mg_engine_steps.specs.standing.Standing.{Stands}
 use Rattle.mg_tip.specs.TipPage.{places as tip_places}
 use Rattle.mg_txlist.specs.Ending.{FailsCommit}
 use Rattle.mg_txlist.specs.TxList.{tip_in}

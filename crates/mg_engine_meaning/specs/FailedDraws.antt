@@ -15,9 +15,9 @@ use Rattle.mg_model.specs.History.{Entries}
 use Rattle.mg_model.specs.Laws.{OpeningsBegin}
 use Rattle.mg_model.specs.Legal.{is_outer}
 use Rattle.mg_base.specs.declared.damage.Field.TheVariants.{Presence}
-use Rattle.mg_engine_steps.specs.PageWrites.{PageWritesFail}
-use Rattle.mg_engine_steps.specs.Idle.{IdleGoesOn}
-use Rattle.mg_engine_steps.specs.Batches.{ReadsLast}
+use Rattle.mg_engine_steps.specs.commits.PageWrites.{PageWritesFail}
+use Rattle.mg_engine_steps.specs.commits.Idle.{IdleGoesOn}
+use Rattle.mg_engine_steps.specs.writes.Batches.{ReadsLast}
 use Rattle.mg_image.specs.Form.{packed_form}
 use Rattle.mg_lasting.specs.Changing.{QuietHolds}
 use Rattle.mg_pool.specs.Dirty.{DirtyPages, is_marked}
@@ -32,7 +32,7 @@ use Rattle.mg_space.specs.View.{KeepsStore, pool_answer}
 use Rattle.mg_space.specs.declared.fault.SpaceFault.{SpaceFault}
 use Rattle.mg_space.specs.declared.fault.SpaceFault.TheVariants as space
 use Rattle.mg_space.specs.declared.links.FireLinks.{FireLinks}
-use Rattle.mg_engine_steps.specs.Following.{StandsOn}
+use Rattle.mg_engine_steps.specs.standing.Following.{StandsOn}
 use Rattle.mg_txlist.specs.Drawing.{FailsDraw, SaysSame, not_changed, only_read}
 use Rattle.mg_txlist.specs.declared.list.TxList.{TxList}
 use Rattle.mg_core.specs.declared.parts.Core.{Core}

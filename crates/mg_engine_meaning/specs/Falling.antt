@@ -27,14 +27,14 @@ use Rattle.mg_image.specs.RecordRules.{Each, EachBack, Facts, IsKeyAlone, IsVers
 use Rattle.mg_image.specs.Records.{Reading, cells_of, key_of, newest_of, record_key, shown, writer}
 use Rattle.mg_image.specs.Sound.{HasTablePages, IsSoundBy, facts_by}
 use Rattle.mg_image.specs.Tables.{Has, Layout, PointerChain, Stand, entries_in, has, stands_of}
-use Rattle.mg_image_overlays.specs.Fronts.{is_dead}
-use Rattle.mg_image_overlays.specs.TableOwners.{IsOneOf, among_named, has_stand, named_other, one_each}
+use Rattle.mg_image_overlays.specs.records.Fronts.{is_dead}
+use Rattle.mg_image_overlays.specs.tables.TableOwners.{IsOneOf, among_named, has_stand, named_other, one_each}
 use Rattle.mg_image_openings.specs.Catalogs.{rows_once}
-use Rattle.mg_image_overlays.specs.OneChain.{link_once, same_stand}
-use Rattle.mg_image_overlays.specs.Growing.{IsTableOf}
-use Rattle.mg_image_overlays.specs.Knowing.{its_pages}
+use Rattle.mg_image_overlays.specs.tables.OneChain.{link_once, same_stand}
+use Rattle.mg_image_overlays.specs.tables.Growing.{IsTableOf}
+use Rattle.mg_image_overlays.specs.kept.Knowing.{its_pages}
 use Rattle.mg_seek.specs.Histories.{told_given, told_versions}
-use Rattle.mg_image_overlays.specs.OneTable.{data_of, its_data, one_table, stands_in, table_at_stands}
+use Rattle.mg_image_overlays.specs.tables.OneTable.{data_of, its_data, one_table, stands_in, table_at_stands}
 
 -- ---- definitions
 

@@ -24,7 +24,7 @@ use Rattle.mg_lasting.specs.Lasting.{LastsOn}
 use Rattle.mg_pool.specs.Pool.{shown}
 use Rattle.mg_pool_overlays.specs.Needs.{Asked, Sessions}
 use Rattle.mg_seek.specs.TableRows.{IsTableSeen}
-use Rattle.mg_engine_steps.specs.Standing.{FindsTables, IsSeenAs, Remembers, RemembersOne, ShowsHistory, Standing, Stands}
+use Rattle.mg_engine_steps.specs.standing.Standing.{FindsTables, IsSeenAs, Remembers, RemembersOne, ShowsHistory, Standing, Stands}
 use Rattle.mg_model.specs.Openings.{everyone}
 use Rattle.mg_overlays.specs.Overlays.{left_state}
 use Rattle.mg_txlist.specs.TxList.{said}
@@ -34,17 +34,17 @@ use Rattle.mg_works.specs.WorksLaws.{with_its}
 use Rattle.mg_core.specs.declared.parts.Core.{Core}
 use Rattle.mg_core.specs.Cores.{Continues, IsCatalog, IsCore}
 use Rattle.mg_core.specs.Tables.{SeesTable}
-use Rattle.mg_engine_steps.specs.Known.{KnowsPages}
-use Rattle.mg_engine_steps.specs.Tables.{TablesAreTold}
-use Rattle.mg_engine_steps.specs.Walking.{WalkPlace}
-use Rattle.mg_image_overlays.specs.TableOwners.{IsOneOf}
+use Rattle.mg_engine_steps.specs.standing.Known.{KnowsPages}
+use Rattle.mg_engine_steps.specs.reads.Tables.{TablesAreTold}
+use Rattle.mg_engine_steps.specs.reads.Walking.{WalkPlace}
+use Rattle.mg_image_overlays.specs.tables.TableOwners.{IsOneOf}
 use Rattle.mg_engine_meaning.specs.KeptLaws.{kept_each, made_kept, one_there}
 use Rattle.mg_engine_meaning.specs.FrameLaws.{commits_of, kept_all, kept_with, others_given, same_sessions, works_with}
 use Rattle.mg_engine_meaning.specs.Frames.{WorksStay}
 use Rattle.mg_engine_meaning.specs.Meaning.{AreNext, Places, means, place_at}
 use Rattle.mg_engine_meaning.specs.Standings.{AreSeen, KeepsWritten, Numbers, SeesIt, ShowsIt, StandsFor, StandsWhile, Tables, asked_in, asked_kept, mode_kept, sessions_in, standing_of, undo_kept}
 use Rattle.mg_engine_meaning.specs.StepLaws.{as_standing, shows_of}
-use Rattle.mg_engine_steps.specs.Found.{FoundTablesStand}
+use Rattle.mg_engine_steps.specs.tables.Found.{FoundTablesStand}
 
 -- ---- the catalog
 

@@ -20,12 +20,12 @@ use Rattle.mg_model.specs.Openings.{IsOpening}
 use Rattle.mg_records.specs.Committing.{PagesAreFew}
 use Rattle.mg_records.specs.Crashing.{CrashesHold, HoldsOn}
 use Rattle.mg_records.specs.Reading.{TablesAreSeen, WalksAreWhole, shape_seen}
-use Rattle.mg_engine_steps.specs.Known.{KnowsPages, seen_is_shown}
-use Rattle.mg_engine_steps.specs.Walking.{WalksBegin}
+use Rattle.mg_engine_steps.specs.standing.Known.{KnowsPages, seen_is_shown}
+use Rattle.mg_engine_steps.specs.reads.Walking.{WalksBegin}
 use Rattle.mg_image.specs.Form.{packed_form}
 use Rattle.mg_lasting.specs.CrashLaws.{asked_quiet, count_quiet, from_longer, holds_cut}
 use Rattle.mg_lasting.specs.Crashes.{HoldsAcknowledged, HoldsFrom, asked, is_failed_write, may_last}
-use Rattle.mg_engine_steps.specs.Standing.{IsSeenAs, Remembers}
+use Rattle.mg_engine_steps.specs.standing.Standing.{IsSeenAs, Remembers}
 use Rattle.mg_core.specs.declared.parts.Core.{Core}
 use Rattle.mg_base.specs.Disk.{MayLeave}
 use Rattle.mg_pool.specs.Pool.{shown}

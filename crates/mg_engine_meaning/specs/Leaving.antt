@@ -5,7 +5,7 @@ use Rattle.mg_base.specs.Disk.{Meaning}
 use Rattle.mg_base.specs.declared.transaction.TxState.{TxState}
 use Rattle.mg_base.specs.declared.transaction.TxState.TheVariants.{Active}
 use Rattle.mg_chain.specs.Bases.{live_after}
-use Rattle.mg_engine_steps.specs.PageWrites.{KeepAsking}
+use Rattle.mg_engine_steps.specs.commits.PageWrites.{KeepAsking}
 use Rattle.mg_model.specs.declared.opening.Opening.{Opening}
 use Rattle.mg_model.specs.Effects.{doer, is_its}
 use Rattle.mg_model.specs.History.{Effect, Ends, Entries, Entry, effect_of, transaction_of}
@@ -15,7 +15,7 @@ use Rattle.mg_pool.specs.declared.pool.Pool.{Pool}
 use Rattle.mg_records.specs.Keeping.{CommitsStay, TablesStay}
 use Rattle.mg_snap.specs.Live.{after_leave}
 use Rattle.mg_space.specs.declared.links.FireLinks.{FireLinks}
-use Rattle.mg_engine_steps.specs.Following.{FollowsEntry, Notes}
+use Rattle.mg_engine_steps.specs.standing.Following.{FollowsEntry, Notes}
 use Rattle.mg_txlist.specs.TxList.{EndsIn, next_said, said}
 use Rattle.mg_txlist.specs.declared.list.TxList.{TxList}
 use Rattle.mg_waits.specs.Waits.{NowWaits, edges_in}

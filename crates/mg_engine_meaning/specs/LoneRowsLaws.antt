@@ -10,11 +10,11 @@ use Rattle.mg_image.specs.Records.{Reading, record_key, writer}
 use Rattle.mg_image.specs.Sound.{IsSoundBy, facts_by}
 use Rattle.mg_image.specs.Tables.{Layout, Stand, has, stands_of, table_at}
 use Rattle.mg_image.specs.declared.entry.Entry.{Entry}
-use Rattle.mg_image_overlays.specs.Growing.{IsTableOf}
-use Rattle.mg_image_overlays.specs.OneChain.{same_stand}
-use Rattle.mg_image_overlays.specs.OneLayout.{StandsOneWay}
-use Rattle.mg_engine_steps.specs.CatalogPages.{catalog_page_named}
-use Rattle.mg_engine_steps.specs.SameRecords.{catalog_stands, same_catalog, same_record}
+use Rattle.mg_image_overlays.specs.tables.Growing.{IsTableOf}
+use Rattle.mg_image_overlays.specs.tables.OneChain.{same_stand}
+use Rattle.mg_image_overlays.specs.tables.OneLayout.{StandsOneWay}
+use Rattle.mg_engine_steps.specs.tables_back.CatalogPages.{catalog_page_named}
+use Rattle.mg_engine_steps.specs.tables.SameRecords.{catalog_stands, same_catalog, same_record}
 use Rattle.mg_model.specs.Catalog.{catalog_name}
 use Rattle.mg_model.specs.Openings.{everyone}
 use Rattle.mg_model.specs.declared.table.Table.{Table}

@@ -24,10 +24,10 @@ use Rattle.mg_model.specs.Legal.{IsLawful}
 use Rattle.mg_model.specs.Machine.{base, database, is_of, mode_of, own, state_of}
 use Rattle.mg_model.specs.Openings.{everyone}
 use Rattle.mg_chain.specs.Bases.{live_after}
-use Rattle.mg_engine_steps.specs.Known.{KnowsPages}
-use Rattle.mg_engine_steps.specs.Idle.{IdleGoesOn}
-use Rattle.mg_engine_steps.specs.Finding.{LookFinds, LookHasTables, TablesFor}
-use Rattle.mg_engine_steps.specs.Lawful.{DatabasesAreLawful}
+use Rattle.mg_engine_steps.specs.standing.Known.{KnowsPages}
+use Rattle.mg_engine_steps.specs.commits.Idle.{IdleGoesOn}
+use Rattle.mg_engine_steps.specs.tables.Finding.{LookFinds, LookHasTables, TablesFor}
+use Rattle.mg_engine_steps.specs.tables.Lawful.{DatabasesAreLawful}
 use Rattle.mg_grown_catalogs.specs.Grown.{BasesAreWithin}
 use Rattle.mg_image.specs.Form.{packed_form}
 use Rattle.mg_lasting.specs.Changing.{QuietHolds}
@@ -40,9 +40,9 @@ use Rattle.mg_records.specs.Reading.{shape_named, shape_seen}
 use Rattle.mg_snap.specs.Live.{State as Bases, after_rebase, sees}
 use Rattle.mg_snap.specs.LiveLaws.{others_change_nothing}
 use Rattle.mg_space.specs.declared.links.FireLinks.{FireLinks}
-use Rattle.mg_engine_steps.specs.Following.{FollowsEntry, StandsOn}
-use Rattle.mg_engine_steps.specs.QuietPages.{FindsAfter}
-use Rattle.mg_engine_steps.specs.Standing.{IsSeenAs, Remembers, RemembersOne, Standing}
+use Rattle.mg_engine_steps.specs.standing.Following.{FollowsEntry, StandsOn}
+use Rattle.mg_engine_steps.specs.standing.QuietPages.{FindsAfter}
+use Rattle.mg_engine_steps.specs.standing.Standing.{IsSeenAs, Remembers, RemembersOne, Standing}
 use Rattle.mg_txlist.specs.TxList.{said}
 use Rattle.mg_waits.specs.Waits.{NowWaits, edges_in}
 use Rattle.mg_works.specs.Works.{Working, given_by, given_to, with_work, without_tables, work_of}

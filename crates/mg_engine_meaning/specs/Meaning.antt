@@ -4,7 +4,7 @@ use Rattle.mg_base.specs.Disk.{Meaning}
 use Rattle.mg_base.specs.Image.{Image}
 use Rattle.mg_base.specs.declared.numbers.RecId.{RecId}
 use Rattle.mg_base.specs.declared.transaction.TxState.TheVariants.{Active}
-use Rattle.mg_engine_steps.specs.Walking.{AreToCome, WalkPlace}
+use Rattle.mg_engine_steps.specs.reads.Walking.{AreToCome, WalkPlace}
 use Rattle.mg_heap.specs.Walk.{is_primary}
 use Rattle.mg_image.specs.Form.{packed_form}
 use Rattle.mg_lasting.specs.Crashes.{HoldsFrom, asked}
@@ -19,7 +19,7 @@ use Rattle.mg_records.specs.Meaning.{Means}
 use Rattle.mg_records.specs.Needed.{with_room}
 use Rattle.mg_slots.specs.DataPage.{cell_of}
 use Rattle.mg_space.specs.View.{Tells}
-use Rattle.mg_engine_steps.specs.Standing.{Standing}
+use Rattle.mg_engine_steps.specs.standing.Standing.{Standing}
 use Rattle.mg_works.specs.Works.{MayBeGiven, Working, given_to, has_session, work_of}
 use Rattle.mg_core.specs.declared.parts.Core.{Core}
 use Rattle.mg_engine_meaning.specs.FreePages.{CoreHasFree}

@@ -22,8 +22,8 @@ use Rattle.mg_model.specs.Legal.{IsLawful, is_durable}
 use Rattle.mg_model.specs.Machine.{is_of, next_after, state_after, state_of, waited_on}
 use Rattle.mg_chain.specs.Bases.{live_after}
 use Rattle.mg_chain.specs.Chains.{takes_version}
-use Rattle.mg_engine_steps.specs.Walking.{AreToCome, WalkPlace, rec_of}
-use Rattle.mg_engine_steps.specs.Idle.{IdleGoesOn}
+use Rattle.mg_engine_steps.specs.reads.Walking.{AreToCome, WalkPlace, rec_of}
+use Rattle.mg_engine_steps.specs.commits.Idle.{IdleGoesOn}
 use Rattle.mg_image.specs.Form.{Pages, packed_form}
 use Rattle.mg_image.specs.Sound.{IsSoundBy}
 use Rattle.mg_lasting.specs.Changing.{QuietHolds}
@@ -39,9 +39,9 @@ use Rattle.mg_records.specs.Keeping.{Keeps, WalksStay}
 use Rattle.mg_seek.specs.Walks.{records_behind, rows_shown}
 use Rattle.mg_snap.specs.Live.{State as Bases, sees}
 use Rattle.mg_space.specs.declared.links.FireLinks.{FireLinks}
-use Rattle.mg_engine_steps.specs.Following.{FollowsEntry, Notes, StandsOn}
-use Rattle.mg_engine_steps.specs.QuietPages.{FindsAfter}
-use Rattle.mg_engine_steps.specs.Standing.{Standing}
+use Rattle.mg_engine_steps.specs.standing.Following.{FollowsEntry, Notes, StandsOn}
+use Rattle.mg_engine_steps.specs.standing.QuietPages.{FindsAfter}
+use Rattle.mg_engine_steps.specs.standing.Standing.{Standing}
 use Rattle.mg_txlist.specs.TxList.{next_said, said}
 use Rattle.mg_waits.specs.Waits.{NowWaits, edges_in}
 use Rattle.mg_works.specs.Works.{Working, given_to, work_of}

@@ -27,8 +27,8 @@ use Rattle.mg_new_databases.specs.NewDatabase.{kv_shape, new_layout, new_reading
 use Rattle.mg_new_databases.specs.PageLaws.{others_dead, system_committed}
 use Rattle.mg_new_databases.specs.Soundness.{IsNewSound, NewAreOpened, NewAreSound}
 use Rattle.mg_overlays.specs.Overlays.{left_by, left_state}
-use Rattle.mg_image_overlays.specs.Growing.{IsTableOf}
-use Rattle.mg_image_overlays.specs.OneLayout.{StandsOneWay}
+use Rattle.mg_image_overlays.specs.tables.Growing.{IsTableOf}
+use Rattle.mg_image_overlays.specs.tables.OneLayout.{StandsOneWay}
 
 begins_by : (free : ℕ) (opened : Opened) → IsNew opened → Begins opened (new_history free)
 begins_by free opened new = record {

@@ -7,7 +7,7 @@ use Rattle.mg_base.specs.Disk.{Meaning}
 use Rattle.mg_base.specs.declared.numbers.PageNo.{PageNo}
 use Rattle.mg_model.specs.declared.refusal.Refusal.{Refusal}
 use Rattle.mg_model.specs.declared.refusal.Refusal.TheVariants.{DiskWrite, Offline}
-use Rattle.mg_engine_steps.specs.PageWrites.{PageWritesFail, PageWritesGoOn}
+use Rattle.mg_engine_steps.specs.commits.PageWrites.{PageWritesFail, PageWritesGoOn}
 use Rattle.mg_image.specs.Form.{packed_form}
 use Rattle.mg_lasting.specs.PoolLaws.{HoldsOne}
 use Rattle.mg_pool.specs.Dirty.{DirtyPages, IsLeastPage, bytes_of, content_of, entry_in, is_dirty}

@@ -19,7 +19,7 @@ use Rattle.mg_pool.specs.declared.pool.Pool.{Pool}
 use Rattle.mg_space.specs.View.{KeepsStore, Tells}
 use Rattle.mg_space.specs.ViewLaws.{CountsNow, content_on}
 use Rattle.mg_space.specs.declared.links.FireLinks.{FireLinks}
-use Rattle.mg_engine_steps.specs.StartLaws.{StandsFirst}
+use Rattle.mg_engine_steps.specs.standing.StartLaws.{StandsFirst}
 use Rattle.mg_survey.specs.Survey.{IsSameDisk}
 use Rattle.mg_txlist.specs.Laws.{LoadedSays}
 use Rattle.mg_works.specs.Works.{Working, has_session}

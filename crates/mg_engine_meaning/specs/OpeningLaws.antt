@@ -36,8 +36,8 @@ use Rattle.mg_pool.specs.Dirty.{DirtyPages}
 use Rattle.mg_pool.specs.Pool.{shown}
 use Rattle.mg_space.specs.View.{Tells}
 use Rattle.mg_space.specs.declared.links.FireLinks.{FireLinks}
-use Rattle.mg_engine_steps.specs.Following.{IsFirst}
-use Rattle.mg_engine_steps.specs.StartLaws.{StandsFirst}
+use Rattle.mg_engine_steps.specs.standing.Following.{IsFirst}
+use Rattle.mg_engine_steps.specs.standing.StartLaws.{StandsFirst}
 use Rattle.mg_txlist.specs.Laws.{LoadedSays}
 use Rattle.mg_txlist.specs.TxList.{next_said, said}
 use Rattle.mg_waits.specs.Waits.{edges_in}
@@ -47,7 +47,7 @@ use Rattle.mg_engine_meaning.specs.BasesLaws.{first_bases}
 use Rattle.mg_engine_meaning.specs.Openings.{BeginsWith, IsSettledOn}
 use Rattle.mg_engine_meaning.specs.TipLaws.{tips_shown}
 use Rattle.mg_engine_meaning.specs.AgreeLaws.{HistoriesAgree}
-use Rattle.mg_engine_steps.specs.Standing.{Stands}
+use Rattle.mg_engine_steps.specs.standing.Standing.{Stands}
 
 module _ {D : Type 0} (m : Meaning D) (disk : D) (limit : ℕ) (core : Core D) (opens : Opens m disk limit core)
     (image : Image) (tells : Tells m core.store.disk image) where

@@ -11,8 +11,8 @@ use Rattle.mg_model.specs.declared.table.Table.{Table}
 use Rattle.mg_model.specs.Changes.{KeyedRows}
 use Rattle.mg_model.specs.History.{Entries}
 use Rattle.mg_model.specs.Laws.{OpeningsBegin}
-use Rattle.mg_engine_steps.specs.Walking.{AreToCome, WalkPlace}
-use Rattle.mg_engine_steps.specs.Batches.{ReadsLast}
+use Rattle.mg_engine_steps.specs.reads.Walking.{AreToCome, WalkPlace}
+use Rattle.mg_engine_steps.specs.writes.Batches.{ReadsLast}
 use Rattle.mg_image.specs.Form.{packed_form}
 use Rattle.mg_image.specs.Inventory.{header_of}
 use Rattle.mg_lasting.specs.Crashes.{HoldsAcknowledged, LeavesSince}
@@ -23,7 +23,7 @@ use Rattle.mg_records.specs.Crashing.{LeavesQuietly}
 use Rattle.mg_records.specs.Keeping.{CommitsStay, Keeps, Reads, WalksStay}
 use Rattle.mg_space.specs.View.{KeepsStore}
 use Rattle.mg_space.specs.declared.links.FireLinks.{FireLinks}
-use Rattle.mg_engine_steps.specs.Standing.{Standing, Stands}
+use Rattle.mg_engine_steps.specs.standing.Standing.{Standing, Stands}
 use Rattle.mg_txlist.specs.TxList.{said}
 use Rattle.mg_core.specs.declared.parts.Core.{Core}
 use Rattle.mg_engine_meaning.specs.KnownRecords.{KnowsIts}

@@ -11,15 +11,15 @@ use Rattle.mg_base.specs.declared.numbers.TxNo.{TxNo}
 use Rattle.mg_base.specs.declared.transaction.TxState.{TxState}
 use Rattle.mg_base.specs.declared.transaction.TxState.TheVariants.{Active, Dead}
 use Rattle.mg_chain.specs.Chains.{takes_version}
-use Rattle.mg_engine_steps.specs.Known.{IsShown, seen_is_shown}
-use Rattle.mg_engine_steps.specs.ListShows.{lists_stay}
+use Rattle.mg_engine_steps.specs.standing.Known.{IsShown, seen_is_shown}
+use Rattle.mg_engine_steps.specs.commits.ListShows.{lists_stay}
 use Rattle.mg_engine_meaning.specs.KnownRecords.{KnowsIts}
 use Rattle.mg_engine_meaning.specs.LoneRowsLaws.{lone_beside}
 use Rattle.mg_engine_meaning.specs.Falling.{Falls, read_alike}
 use Rattle.mg_engine_meaning.specs.Rollbacks.{RollbacksGoOn}
-use Rattle.mg_engine_steps.specs.Idle.{IdleGoesOn}
-use Rattle.mg_engine_steps.specs.Alike.{GoesAlike, OthersTakeAlike, TakesAlike, WalksGoAlike}
-use Rattle.mg_image_overlays.specs.Knowing.{its_pages}
+use Rattle.mg_engine_steps.specs.commits.Idle.{IdleGoesOn}
+use Rattle.mg_engine_steps.specs.reads.Alike.{GoesAlike, OthersTakeAlike, TakesAlike, WalksGoAlike}
+use Rattle.mg_image_overlays.specs.kept.Knowing.{its_pages}
 use Rattle.mg_image.specs.Form.{Pages, packed_coding, packed_form}
 use Rattle.mg_image.specs.ReadingLaws.{RowsAreOne}
 use Rattle.mg_image.specs.Records.{Reading, shown as row_shown}
@@ -38,7 +38,7 @@ use Rattle.mg_model.specs.Laws.{OpeningsBegin}
 use Rattle.mg_model.specs.Legal.{IsLawful}
 use Rattle.mg_model.specs.Machine.{is_of, state_of}
 use Rattle.mg_model.specs.Openings.{everyone}
-use Rattle.mg_image_overlays.specs.OneChain.{link_once}
+use Rattle.mg_image_overlays.specs.tables.OneChain.{link_once}
 use Rattle.mg_overlays.specs.Overlays.{left_by as counts_by, left_state, without}
 use Rattle.mg_pointer.specs.PointerPage.{next_in}
 use Rattle.mg_pool.specs.Pool.{shown}
@@ -46,12 +46,12 @@ use Rattle.mg_records.specs.Adding.{fine_or}
 use Rattle.mg_records.specs.Keeping.{WalksStay, refusal_in}
 use Rattle.mg_records.specs.Sessions.{ended_in}
 use Rattle.mg_space.specs.declared.links.FireLinks.{FireLinks}
-use Rattle.mg_engine_steps.specs.Following.{FollowsEntry, StandsOn}
-use Rattle.mg_engine_steps.specs.Standing.{Standing}
-use Rattle.mg_engine_steps.specs.Walking.{WalkPlace}
-use Rattle.mg_image_overlays.specs.OneTable.{its_data}
+use Rattle.mg_engine_steps.specs.standing.Following.{FollowsEntry, StandsOn}
+use Rattle.mg_engine_steps.specs.standing.Standing.{Standing}
+use Rattle.mg_engine_steps.specs.reads.Walking.{WalkPlace}
+use Rattle.mg_image_overlays.specs.tables.OneTable.{its_data}
 use Rattle.mg_directory.specs.Candidates.{Kept, by_table}
-use Rattle.mg_image_overlays.specs.OneLayout.{StandsOneWay}
+use Rattle.mg_image_overlays.specs.tables.OneLayout.{StandsOneWay}
 use Rattle.mg_noted.specs.ChoiceTables.{table_in_first}
 use Rattle.mg_noted.specs.EndedLaws.{chosen_has}
 use Rattle.mg_noted.specs.Noted.{HasDirectories, HasNoted}

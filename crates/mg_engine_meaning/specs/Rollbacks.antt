@@ -13,9 +13,9 @@ use Rattle.mg_pool.specs.declared.pool.Pool.{Pool}
 use Rattle.mg_pool_overlays.specs.Needs.{Asked, Sessions}
 use Rattle.mg_lasting.specs.Crashes.{may_last}
 use Rattle.mg_lasting.specs.Lasting.{LastsOn}
-use Rattle.mg_engine_steps.specs.Following.{FollowsEntry}
-use Rattle.mg_engine_steps.specs.Standing.{Standing, Stands}
-use Rattle.mg_engine_steps.specs.PageWrites.{KeepAsking}
+use Rattle.mg_engine_steps.specs.standing.Following.{FollowsEntry}
+use Rattle.mg_engine_steps.specs.standing.Standing.{Standing, Stands}
+use Rattle.mg_engine_steps.specs.commits.PageWrites.{KeepAsking}
 use Rattle.mg_engine_meaning.specs.PlainTables.{IndexesAgree}
 
 -- a transaction is rolled back: no page has changed, its versions no longer count, and the tables that it has made

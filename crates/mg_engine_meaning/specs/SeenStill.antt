@@ -3,7 +3,7 @@ use Rattle.std.proofs.Common.{◌≡◌, ◌⊎◌, ◌&&◌, ◌++◌, ◌==◌
 use Rattle.std.specs.Prelude.{if◌then◌else◌}
 use Rattle.std.proofs.lemmas.Bool.{eq-eqb, false≢true}
 use Rattle.mg_base.specs.declared.numbers.TxNo.{TxNo}
-use Rattle.mg_engine_steps.specs.Standing.{IsSeenAs}
+use Rattle.mg_engine_steps.specs.standing.Standing.{IsSeenAs}
 use Rattle.mg_grown_catalogs.specs.Grown.{BasesAreWithin, CatalogGrows}
 use Rattle.mg_model.specs.Catalog.{CatalogRows, catalog_name, shape_said, table_key}
 use Rattle.mg_model.specs.Changes.{Cells, has_change, row_at, same_name}

@@ -18,8 +18,8 @@ use Rattle.mg_model.specs.Answers.{is_active}
 use Rattle.mg_model.specs.Changes.{KeyedRows}
 use Rattle.mg_model.specs.History.{Entries}
 use Rattle.mg_model.specs.Machine.{is_of, state_of}
-use Rattle.mg_engine_steps.specs.Walking.{AreToCome, WalkPlace, rec_of}
-use Rattle.mg_engine_steps.specs.PageWrites.{PageWritesFail, PageWritesGoOn}
+use Rattle.mg_engine_steps.specs.reads.Walking.{AreToCome, WalkPlace, rec_of}
+use Rattle.mg_engine_steps.specs.commits.PageWrites.{PageWritesFail, PageWritesGoOn}
 use Rattle.mg_image.specs.Form.{Pages, packed_form}
 use Rattle.mg_image.specs.Inventory.{header_of}
 use Rattle.mg_lasting.specs.Crashes.{HoldsAcknowledged, LeavesSince}
@@ -45,7 +45,7 @@ use Rattle.mg_model.specs.Openings.{everyone}
 use Rattle.mg_overlays.specs.Overlays.{left_state}
 use Rattle.mg_seek.specs.Walks.{records_behind, rows_shown}
 use Rattle.mg_snap.specs.Live.{State as Bases}
-use Rattle.mg_engine_steps.specs.Standing.{Standing, Stands}
+use Rattle.mg_engine_steps.specs.standing.Standing.{Standing, Stands}
 use Rattle.mg_txlist.specs.TxList.{said}
 use Rattle.mg_works.specs.Works.{Working, work_of}
 use Rattle.mg_core.specs.declared.parts.Core.{Core}

@@ -23,12 +23,12 @@ use Rattle.mg_pool.specs.Pool.{shown}
 use Rattle.mg_pool.specs.declared.pool.Pool.{Pool}
 use Rattle.mg_seek.specs.TableRows.{IsTableSeen}
 use Rattle.mg_space.specs.declared.links.FireLinks.{FireLinks}
-use Rattle.mg_engine_steps.specs.Standing.{IsSeenAs}
+use Rattle.mg_engine_steps.specs.standing.Standing.{IsSeenAs}
 use Rattle.mg_works.specs.Works.{MayBeGiven, Working, given_by, given_in, given_to, with_table, with_work, work_of}
 use Rattle.mg_core.specs.declared.parts.Core.{Core}
 use Rattle.mg_core.specs.Cores.{Continues, IsCore, RefusesCall}
 use Rattle.mg_core.specs.Tables.{AnswersTable, FailsTable, FindsTable, GivesAgain, LacksTable, RefusesName, SeesTable, by_call, by_fault, by_lack, by_memory}
-use Rattle.mg_engine_steps.specs.Tables.{TablesAreTold}
+use Rattle.mg_engine_steps.specs.reads.Tables.{TablesAreTold}
 use Rattle.mg_engine_meaning.specs.FrameLaws.{sessions_of, works_same}
 use Rattle.mg_engine_meaning.specs.LawfulLaws.{memory_of}
 use Rattle.mg_engine_meaning.specs.Laws.{IsKeeper}
@@ -36,7 +36,7 @@ use Rattle.mg_engine_meaning.specs.Meaning.{Places, means}
 use Rattle.mg_engine_meaning.specs.Standings.{ShowsIt, StandsFor, standing_of}
 use Rattle.mg_engine_meaning.specs.StepLaws.{refused_none, shows_of, still_none}
 use Rattle.mg_engine_meaning.specs.Steps.{AddsNone, ReadsGoOn}
-use Rattle.mg_engine_steps.specs.Found.{FoundTablesStand}
+use Rattle.mg_engine_steps.specs.tables.Found.{FoundTablesStand}
 use Rattle.mg_engine_meaning.specs.FaultLaws.{IsOuter, fault_outer}
 use Rattle.mg_engine_meaning.specs.KeepLaws.{catalog_shown, given_now, keep_commits, keep_stands, keep_walks, stay, tables_stay}
 use Rattle.mg_engine_meaning.specs.Counts.{HasCounts}

@@ -7,7 +7,7 @@ use Rattle.std.proofs.lemmas.List.{length-append}
 use Rattle.mg_engine_meaning.specs.Standings.{HasTips}
 use Rattle.mg_image.specs.Form.{Pages}
 use Rattle.mg_image.specs.Inventory.{header_of, last_sequence, next_of, tip_before, tip_page}
-use Rattle.mg_image_overlays.specs.Rest.{div_grows}
+use Rattle.mg_image_overlays.specs.kept.Rest.{div_grows}
 use Rattle.mg_tip.specs.TipPage.{places, prev_in}
 use Rattle.mg_txlist.specs.Chain.{HasHead, tip_at, tips_below}
 use Rattle.mg_txlist.specs.TxList.{no_page, tip_in}

@@ -30,7 +30,7 @@ use Rattle.mg_core.specs.declared.parts.Core.{Core}
 use Rattle.mg_core.specs.declared.scanning.Place.{Place}
 use Rattle.mg_core.specs.Cores.{Continues, RefusesCall}
 use Rattle.mg_core.specs.Scanning.{FailsScan, GivesFound, GoesOn, HasKey, IsBehind, IsFound, Scans, ScansOn, rank, record_of, sequence_in}
-use Rattle.mg_engine_steps.specs.Walking.{AreToCome, WalkPlace, WalksGoOn, place_in, rec_of}
+use Rattle.mg_engine_steps.specs.reads.Walking.{AreToCome, WalkPlace, WalksGoOn, place_in, rec_of}
 use Rattle.mg_engine_meaning.specs.FrameLaws.{sessions_of, works_same}
 use Rattle.mg_engine_meaning.specs.LawfulLaws.{memory_of}
 use Rattle.mg_engine_meaning.specs.Laws.{IsKeeper}

@@ -6,12 +6,12 @@ use Rattle.mg_lasting.specs.StartingLaws.{StartsOn}
 use Rattle.mg_model.specs.Laws.{OpeningsBegin}
 use Rattle.mg_space.specs.ViewLaws.{CountsNow}
 use Rattle.mg_space.specs.declared.links.FireLinks.{FireLinks}
-use Rattle.mg_engine_steps.specs.StartLaws.{StandsFirst}
+use Rattle.mg_engine_steps.specs.standing.StartLaws.{StandsFirst}
 use Rattle.mg_txlist.specs.Laws.{LoadedSays}
 use Rattle.mg_new_databases.specs.Readable.{NewAreReadable}
 use Rattle.mg_image.specs.Form.{packed_coding, packed_form}
 use Rattle.mg_image.specs.ReadingLaws.{RowsAreOne}
-use Rattle.mg_engine_steps.specs.ChosenTables.{ChosenTablesStand}
+use Rattle.mg_engine_steps.specs.tables.ChosenTables.{ChosenTablesStand}
 use Rattle.mg_engine_meaning.specs.AgreeLaws.{histories_agree}
 use Rattle.mg_engine_meaning.specs.CallLaws.{OpeningsStand}
 use Rattle.mg_engine_meaning.specs.NewBegins.{NewBegin}

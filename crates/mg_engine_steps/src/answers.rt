@@ -16,9 +16,9 @@
 //! The files `Known`, `AnswersLaws`, `Walking` and `Tables` of `specs/` have what counts, and the others prove it. There is no
 //! program here: each function does nothing, and its contract is a law.
 
-ghost use Rattle.mg_engine_steps.specs.AnswersLaws.{NothingAtKeys, ObstaclesAtKeys, RowsAtKeys, SpeakersAreTold};
-ghost use Rattle.mg_engine_steps.specs.Tables.{TablesAreTold};
-ghost use Rattle.mg_engine_steps.specs.Walking.{WalksBegin, WalksGoOn};
+ghost use Rattle.mg_engine_steps.specs.reads.AnswersLaws.{NothingAtKeys, ObstaclesAtKeys, RowsAtKeys, SpeakersAreTold};
+ghost use Rattle.mg_engine_steps.specs.reads.Tables.{TablesAreTold};
+ghost use Rattle.mg_engine_steps.specs.reads.Walking.{WalksBegin, WalksGoOn};
 
 use mg_seek::{keys_are_those_of_the_history, records_are_those_of_every_reading, walks_are_whole};
 use mg_snap::a_new_base_sees_what_has_ended;

@@ -18,9 +18,9 @@
 //! the record that speaks for it as the longer history says it (`ShowsOnward`), at the end that history
 //! (`ShowsBack`). So the engine stands for it (`EnginesGoBack`).
 
-ghost use Rattle.mg_engine_steps.specs.Midway.{EnginesGoBack, KeysComeBack, KeysGoOut, MidwaysAreGivenUp};
-ghost use Rattle.mg_engine_steps.specs.Midway.{MidwaysBegin, MidwaysEnd};
-ghost use Rattle.mg_engine_steps.specs.Shown.{ShowsBack, ShowsFirst, ShowsOnward};
+ghost use Rattle.mg_engine_steps.specs.backs.Midway.{EnginesGoBack, KeysComeBack, KeysGoOut, MidwaysAreGivenUp};
+ghost use Rattle.mg_engine_steps.specs.backs.Midway.{MidwaysBegin, MidwaysEnd};
+ghost use Rattle.mg_engine_steps.specs.backs.Shown.{ShowsBack, ShowsFirst, ShowsOnward};
 ghost use Rattle.mg_image.specs.Form.{packed_form};
 
 use crate::{batches_last, entries_go_on, standings_go_on};

@@ -1,7 +1,7 @@
 //! Rows of the catalog are taken out, each in a batch of its own. Each function's contract is the law.
 
-ghost use Rattle.mg_engine_steps.specs.Outs.{OutsThere, RowAwayKeeps};
-ghost use Rattle.mg_engine_steps.specs.RowsTaken.{RowsAreTaken};
+ghost use Rattle.mg_engine_steps.specs.tables_back.Outs.{OutsThere, RowAwayKeeps};
+ghost use Rattle.mg_engine_steps.specs.tables_back.RowsTaken.{RowsAreTaken};
 ghost use Rattle.mg_image.specs.Form.{packed_form};
 
 use mg_base::Disk;

@@ -12,9 +12,9 @@
 //! each function does nothing, and its contract is a law.
 
 ghost use Rattle.mg_image.specs.Form.{packed_form};
-ghost use Rattle.mg_engine_steps.specs.Commits.{CommitsFail, CommitsGoOn};
-ghost use Rattle.mg_engine_steps.specs.ListShows.{BehindKeepsTips, DataKeepsTips, DrawsKeepList, ListsStay, TipsStayOn};
-ghost use Rattle.mg_engine_steps.specs.PageWrites.{AskingGoesOn, AsksOtherwise, PageWritesFail, PageWritesGoOn};
+ghost use Rattle.mg_engine_steps.specs.commits.Commits.{CommitsFail, CommitsGoOn};
+ghost use Rattle.mg_engine_steps.specs.commits.ListShows.{BehindKeepsTips, DataKeepsTips, DrawsKeepList, ListsStay, TipsStayOn};
+ghost use Rattle.mg_engine_steps.specs.commits.PageWrites.{AskingGoesOn, AsksOtherwise, PageWritesFail, PageWritesGoOn};
 
 use crate::standings_go_on;
 use mg_base::Disk;

@@ -1,6 +1,6 @@
 //! An engine whose transaction takes back tables that it had made. The function does nothing: its contract is the law.
 
-ghost use Rattle.mg_engine_steps.specs.EngineTables.{EnginesTakeTables};
+ghost use Rattle.mg_engine_steps.specs.tables_back.EngineTables.{EnginesTakeTables};
 
 use crate::{changes_are_taken_back, standings_go_on, tables_go_back};
 use mg_base::Disk;

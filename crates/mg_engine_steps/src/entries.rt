@@ -10,8 +10,8 @@
 //! All stands in `specs/`. There is no program here: each function does nothing, and its contract is a law.
 
 ghost use Rattle.mg_image.specs.Form.{packed_form};
-ghost use Rattle.mg_engine_steps.specs.Begins.{BeginsGoOn, DrawsStaySound};
-ghost use Rattle.mg_engine_steps.specs.Idle.{IdleGoesOn, RollbackLastsOn};
+ghost use Rattle.mg_engine_steps.specs.commits.Begins.{BeginsGoOn, DrawsStaySound};
+ghost use Rattle.mg_engine_steps.specs.commits.Idle.{IdleGoesOn, RollbackLastsOn};
 
 use crate::standings_go_on;
 use mg_base::Disk;

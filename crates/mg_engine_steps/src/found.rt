@@ -8,8 +8,8 @@
 //!
 //! All stands in `specs/`. There is no program here: each function does nothing, and its contract is a law.
 
-ghost use Rattle.mg_engine_steps.specs.ChosenTables.{ChosenTablesStand};
-ghost use Rattle.mg_engine_steps.specs.Found.{FoundTablesStand};
+ghost use Rattle.mg_engine_steps.specs.tables.ChosenTables.{ChosenTablesStand};
+ghost use Rattle.mg_engine_steps.specs.tables.Found.{FoundTablesStand};
 
 use crate::{chains_go_on, keys_are_answered, newest_are_seen, tables_are_answered};
 use mg_generations::chains_tell;

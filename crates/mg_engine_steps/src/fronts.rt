@@ -8,8 +8,8 @@
 //! `specs/TablePages` has what counts, the other file proves it. There is no program here: the function does nothing,
 //! and its contract is the laws.
 
-ghost use Rattle.mg_engine_steps.specs.WrittenTablePages.{FirstsKeepPages, MovesKeepPages, PagesAreKeptOn, PushesKeepPages};
-ghost use Rattle.mg_engine_steps.specs.WrittenTablePages.{ReplacementsKeepPages, TakingOutKeepsPages};
+ghost use Rattle.mg_engine_steps.specs.writes.WrittenTablePages.{FirstsKeepPages, MovesKeepPages, PagesAreKeptOn, PushesKeepPages};
+ghost use Rattle.mg_engine_steps.specs.writes.WrittenTablePages.{ReplacementsKeepPages, TakingOutKeepsPages};
 ghost use Rattle.mg_image.specs.Form.{packed_form};
 
 use mg_image::one_reading;

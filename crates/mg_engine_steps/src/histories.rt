@@ -1,7 +1,7 @@
 //! Tables that a transaction has changed, and those that it sees. Each function does nothing: its contract is the laws.
 
-ghost use Rattle.mg_engine_steps.specs.ChangedTables.{ChangedAreThere, NoneOfGone};
-ghost use Rattle.mg_engine_steps.specs.ShapesLeft.{ShapesLeft};
+ghost use Rattle.mg_engine_steps.specs.tables_back.ChangedTables.{ChangedAreThere, NoneOfGone};
+ghost use Rattle.mg_engine_steps.specs.tables_back.ShapesLeft.{ShapesLeft};
 
 use mg_grown_catalogs::catalogs_grow;
 

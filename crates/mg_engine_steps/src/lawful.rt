@@ -7,7 +7,7 @@
 //!
 //! All stands in `specs/`. There is no program here: each function does nothing, and its contract is a law.
 
-ghost use Rattle.mg_engine_steps.specs.Lawful.{DatabasesAreLawful, SeenRowsAreLawful};
+ghost use Rattle.mg_engine_steps.specs.tables.Lawful.{DatabasesAreLawful, SeenRowsAreLawful};
 
 use crate::{chains_go_on, keys_are_answered, newest_are_seen};
 use mg_generations::chains_tell;

@@ -1,6 +1,6 @@
 //! Pages from which tables go that a transaction has made. Each function's contract is the law.
 
-ghost use Rattle.mg_engine_steps.specs.Taken.{LeftAreKept, LeftAreSound};
+ghost use Rattle.mg_engine_steps.specs.tables_back.Taken.{LeftAreKept, LeftAreSound};
 ghost use Rattle.mg_image.specs.Form.{packed_form};
 
 /// Pages without the tables stand where their maker counts as in limbo.

@@ -1,7 +1,7 @@
 //! Rows of the catalog without those of some tables. Each function's contract is the law.
 
-ghost use Rattle.mg_engine_steps.specs.TakenRows.{TablesAreLeft};
-ghost use Rattle.mg_engine_steps.specs.Whole.{GoneAreWhole};
+ghost use Rattle.mg_engine_steps.specs.tables_back.TakenRows.{TablesAreLeft};
+ghost use Rattle.mg_engine_steps.specs.tables_back.Whole.{GoneAreWhole};
 ghost use Rattle.mg_image.specs.Form.{packed_form};
 
 /// The rows that are left name the tables that are left.

@@ -6,7 +6,7 @@
 //!
 //! All stands in `specs/`. There is no program here: the function does nothing, and its contract is the law.
 
-ghost use Rattle.mg_engine_steps.specs.Seen.{NewestIsSeen};
+ghost use Rattle.mg_engine_steps.specs.tables.Seen.{NewestIsSeen};
 
 use mg_grown_catalogs::catalogs_grow;
 

@@ -1,7 +1,7 @@
 //! What is known once tables are taken back. Each function does nothing: its contract is the law.
 
-ghost use Rattle.mg_engine_steps.specs.LeftShown.{ShowsLeft};
-ghost use Rattle.mg_engine_steps.specs.TablesBack.{RowsGoOn, TablesAreTaken, TablesGoBack};
+ghost use Rattle.mg_engine_steps.specs.tables_back.LeftShown.{ShowsLeft};
+ghost use Rattle.mg_engine_steps.specs.tables_back.TablesBack.{RowsGoOn, TablesAreTaken, TablesGoBack};
 
 use crate::{
     batches_last, changed_tables_are_there, memory_follows, rows_are_taken, rows_away_keep,

@@ -14,14 +14,14 @@
 //! is no program here: each function does nothing, and its contract is a law.
 
 ghost use Rattle.mg_image.specs.Form.{packed_form};
-ghost use Rattle.mg_engine_steps.specs.Based.{BasedFollow, TestsAll};
-ghost use Rattle.mg_engine_steps.specs.Ending.{VersionsDie, WritesShow};
-ghost use Rattle.mg_engine_steps.specs.Following.{MemoryBegins, MemoryFollows, OthersKeepTables};
-ghost use Rattle.mg_engine_steps.specs.Following.{ShowsOn, StandsOn};
-ghost use Rattle.mg_engine_steps.specs.StandingLaws.{ChainsGoOn, VersionsFollow, VersionsStay};
-ghost use Rattle.mg_engine_steps.specs.QuietPages.{BeginShows, CommitShows, IdleShows};
-ghost use Rattle.mg_engine_steps.specs.StartLaws.{StandsFirst};
-ghost use Rattle.mg_engine_steps.specs.Writing.{ErasedMayBeSilent, WritesFollow};
+ghost use Rattle.mg_engine_steps.specs.standing.Based.{BasedFollow, TestsAll};
+ghost use Rattle.mg_engine_steps.specs.standing.Ending.{VersionsDie, WritesShow};
+ghost use Rattle.mg_engine_steps.specs.standing.Following.{MemoryBegins, MemoryFollows, OthersKeepTables};
+ghost use Rattle.mg_engine_steps.specs.standing.Following.{ShowsOn, StandsOn};
+ghost use Rattle.mg_engine_steps.specs.standing.StandingLaws.{ChainsGoOn, VersionsFollow, VersionsStay};
+ghost use Rattle.mg_engine_steps.specs.standing.QuietPages.{BeginShows, CommitShows, IdleShows};
+ghost use Rattle.mg_engine_steps.specs.standing.StartLaws.{StandsFirst};
+ghost use Rattle.mg_engine_steps.specs.standing.Writing.{ErasedMayBeSilent, WritesFollow};
 
 use mg_chain::bases_follow_the_machine;
 use mg_model::histories_go_on;

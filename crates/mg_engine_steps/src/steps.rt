@@ -16,10 +16,10 @@
 //! a law.
 
 ghost use Rattle.mg_image.specs.Form.{packed_form};
-ghost use Rattle.mg_engine_steps.specs.Batches.{BatchesLast, PoolBitsAre, ReadsLast, RowsLast, RowsLastStill};
-ghost use Rattle.mg_engine_steps.specs.GoesOn.{FirstsAreRead, MovesAreRead, PoolIsKept, PushesAreRead};
-ghost use Rattle.mg_engine_steps.specs.GoesOn.{ReplacementsAreRead, TakingOutIsRead, WritesGoOn};
-ghost use Rattle.mg_engine_steps.specs.Writes.{WritesShow, WritesStand};
+ghost use Rattle.mg_engine_steps.specs.writes.Batches.{BatchesLast, PoolBitsAre, ReadsLast, RowsLast, RowsLastStill};
+ghost use Rattle.mg_engine_steps.specs.writes.GoesOn.{FirstsAreRead, MovesAreRead, PoolIsKept, PushesAreRead};
+ghost use Rattle.mg_engine_steps.specs.writes.GoesOn.{ReplacementsAreRead, TakingOutIsRead, WritesGoOn};
+ghost use Rattle.mg_engine_steps.specs.writes.Writes.{WritesShow, WritesStand};
 
 use crate::standings_go_on;
 use mg_base::Disk;

@@ -12,9 +12,9 @@
 //!
 //! All stands in `specs/`. There is no program here: each function does nothing, and its contract is a law.
 
-ghost use Rattle.mg_engine_steps.specs.Finding.{BeginFinds, BeginHasTables, CommitFinds, IdleFinds, LookFinds, LookHasTables};
-ghost use Rattle.mg_engine_steps.specs.NamedTables.{NamedTablesStand};
-ghost use Rattle.mg_engine_steps.specs.SeenTables.{DatabaseTablesStand, NewlySeenTablesStand, SeenTablesStand};
+ghost use Rattle.mg_engine_steps.specs.tables.Finding.{BeginFinds, BeginHasTables, CommitFinds, IdleFinds, LookFinds, LookHasTables};
+ghost use Rattle.mg_engine_steps.specs.tables.NamedTables.{NamedTablesStand};
+ghost use Rattle.mg_engine_steps.specs.tables.SeenTables.{DatabaseTablesStand, NewlySeenTablesStand, SeenTablesStand};
 
 use crate::{chains_go_on, memory_follows};
 use mg_generations::chains_tell;

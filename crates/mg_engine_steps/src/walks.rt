@@ -8,7 +8,7 @@
 //! `specs/Alike` has what counts, the other files prove it. There is no program here: each function does nothing,
 //! and its contract is a law.
 
-ghost use Rattle.mg_engine_steps.specs.Alike.{OthersTakeAlike, WalksGoAlike, WalksStayOver};
+ghost use Rattle.mg_engine_steps.specs.reads.Alike.{OthersTakeAlike, WalksGoAlike, WalksStayOver};
 
 /// A transaction takes the versions of the same writers as before, whatever another one does.
 pub fn others_take_alike()

@@ -16,9 +16,9 @@
 //! each choice of transactions that count; that it follows from the one in which all do is `Choices` and
 //! `WriteKnown`.
 
-ghost use Rattle.mg_engine_steps.specs.Free.{RecordsAreFree};
-ghost use Rattle.mg_engine_steps.specs.Rows.{DeadsGo, FirstsGoOn, PushesGoOn, ReplacementsGoOn, SpotsStay};
-ghost use Rattle.mg_engine_steps.specs.Unasked.{UnaskingLasts};
+ghost use Rattle.mg_engine_steps.specs.writes.Free.{RecordsAreFree};
+ghost use Rattle.mg_engine_steps.specs.writes.Rows.{DeadsGo, FirstsGoOn, PushesGoOn, ReplacementsGoOn, SpotsStay};
+ghost use Rattle.mg_engine_steps.specs.commits.Unasked.{UnaskingLasts};
 ghost use Rattle.mg_image.specs.Form.{packed_form};
 
 use crate::{batches_last, writes_go_on};

@@ -8,9 +8,9 @@ use Rattle.mg_image.specs.Inventory.{header_of, last_sequence, tip_page}
 use Rattle.mg_image.specs.Records.{Reading, cells_of}
 use Rattle.mg_image.specs.Sound.{IsSoundBy, facts_by}
 use Rattle.mg_image.specs.Tables.{EachStand, Layout, stands_of, table_at}
-use Rattle.mg_image_overlays.specs.DataKept.{KeepsBits}
-use Rattle.mg_image_overlays.specs.Growing.{HasGrown}
-use Rattle.mg_image_overlays.specs.KeptImages.{AreFrontStands}
+use Rattle.mg_image_overlays.specs.pages.DataKept.{KeepsBits}
+use Rattle.mg_image_overlays.specs.tables.Growing.{HasGrown}
+use Rattle.mg_image_overlays.specs.kept.KeptImages.{AreFrontStands}
 use Rattle.mg_model.specs.declared.table.Index.{Index}
 use Rattle.mg_model.specs.declared.table.Table.{Table}
 use Rattle.mg_node.specs.declared.entry.Entry.{Entry}

@@ -17,15 +17,15 @@ use Rattle.mg_image.specs.Reached.{linked_pages, tips_of}
 use Rattle.mg_image.specs.Records.{Reading, slot_cell}
 use Rattle.mg_image.specs.Sound.{HasRegion, IsSoundBy}
 use Rattle.mg_image.specs.Tables.{Has, Layout, Stand, pages_of, stands_of}
-use Rattle.mg_image_overlays.specs.BehindTrees.{behind_by_itself}
-use Rattle.mg_image_overlays.specs.DataPages.{all_passes, byte_blank, kind_of}
-use Rattle.mg_image_overlays.specs.DataKept.{KeepsBits}
-use Rattle.mg_image_overlays.specs.Grow.{tip_is}
-use Rattle.mg_image_overlays.specs.Growth.{has_back, has_front}
-use Rattle.mg_image_overlays.specs.Kinds.{HasNoSequences, IsLinked, linked_is, pointers_of}
-use Rattle.mg_image_overlays.specs.KeptImages.{AreFrontStands, all_trees}
-use Rattle.mg_image_overlays.specs.Rest.{div_grows}
-use Rattle.mg_image_overlays.specs.StartLaws.{stands_self}
+use Rattle.mg_image_overlays.specs.pages.BehindTrees.{behind_by_itself}
+use Rattle.mg_image_overlays.specs.pages.DataPages.{all_passes, byte_blank, kind_of}
+use Rattle.mg_image_overlays.specs.pages.DataKept.{KeepsBits}
+use Rattle.mg_image_overlays.specs.pages.Grow.{tip_is}
+use Rattle.mg_image_overlays.specs.pages.Growth.{has_back, has_front}
+use Rattle.mg_image_overlays.specs.pages.Kinds.{HasNoSequences, IsLinked, linked_is, pointers_of}
+use Rattle.mg_image_overlays.specs.kept.KeptImages.{AreFrontStands, all_trees}
+use Rattle.mg_image_overlays.specs.kept.Rest.{div_grows}
+use Rattle.mg_image_overlays.specs.kept.StartLaws.{stands_self}
 use Rattle.mg_entry_overlays.specs.Entered.{ShowsEntries}
 use Rattle.mg_entry_overlays.specs.EntryBatches.{EntriesOf, IsEntryPlace, LaysEntries}
 use Rattle.mg_entry_overlays.specs.Laws.{EntriesShow}

@@ -24,14 +24,14 @@ use Rattle.mg_image.specs.RecordRules.{Facts, committed_in}
 use Rattle.mg_image.specs.Records.{Reading}
 use Rattle.mg_image.specs.Sound.{HasInventory, HasRegion, HasTransactions, IsSoundBy, facts_by}
 use Rattle.mg_image.specs.Tables.{EachStand, Has, IsOnce, Layout, Stand, pages_of, stands_of}
-use Rattle.mg_image_overlays.specs.DataPages.{all_passes, byte_blank, kind_of}
-use Rattle.mg_image_overlays.specs.Fronts.{HasFronts}
-use Rattle.mg_image_overlays.specs.Grow.{last_is, tip_is}
-use Rattle.mg_image_overlays.specs.Growth.{has_back, has_front}
-use Rattle.mg_image_overlays.specs.Kinds.{HasNoSequences, IsLinked, linked_is, pointers_of}
-use Rattle.mg_image_overlays.specs.KeptImages.{AreFrontStands, IsKept, StandsBehind}
-use Rattle.mg_image_overlays.specs.Reach.{once_apart, once_back, once_front}
-use Rattle.mg_image_overlays.specs.Rest.{div_grows}
+use Rattle.mg_image_overlays.specs.pages.DataPages.{all_passes, byte_blank, kind_of}
+use Rattle.mg_image_overlays.specs.records.Fronts.{HasFronts}
+use Rattle.mg_image_overlays.specs.pages.Grow.{last_is, tip_is}
+use Rattle.mg_image_overlays.specs.pages.Growth.{has_back, has_front}
+use Rattle.mg_image_overlays.specs.pages.Kinds.{HasNoSequences, IsLinked, linked_is, pointers_of}
+use Rattle.mg_image_overlays.specs.kept.KeptImages.{AreFrontStands, IsKept, StandsBehind}
+use Rattle.mg_image_overlays.specs.pages.Reach.{once_apart, once_back, once_front}
+use Rattle.mg_image_overlays.specs.kept.Rest.{div_grows}
 use Rattle.mg_tree_overlays.specs.BatchLaws.{used_as}
 use Rattle.mg_tree_overlays.specs.TreeBatches.{inventory_of}
 use Rattle.mg_entry_overlays.specs.EnteredLaws as entered

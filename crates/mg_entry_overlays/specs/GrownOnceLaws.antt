@@ -4,8 +4,8 @@ use Rattle.std.specs.List.{flat_map}
 use Rattle.mg_image.specs.Form.{Pages}
 use Rattle.mg_image.specs.Indexes.{AreTrees}
 use Rattle.mg_image.specs.Tables.{Has, IsOnce, Stand, tree_pages}
-use Rattle.mg_image_overlays.specs.Growth.{has_back, has_either, has_front}
-use Rattle.mg_image_overlays.specs.Reach.{once_apart, once_back}
+use Rattle.mg_image_overlays.specs.pages.Growth.{has_back, has_either, has_front}
+use Rattle.mg_image_overlays.specs.pages.Reach.{once_apart, once_back}
 use Rattle.mg_tree_overlays.specs.TreePages.{all_of}
 use Rattle.mg_model.specs.declared.table.Index.{Index}
 use Rattle.mg_entry_overlays.specs.Retreed.{Trees, trees_pages}

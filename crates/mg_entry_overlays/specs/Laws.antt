@@ -15,7 +15,7 @@ use Rattle.mg_image.specs.Reached.{tips_of}
 use Rattle.mg_image.specs.Records.{Reading}
 use Rattle.mg_image.specs.Sound.{IsSoundBy}
 use Rattle.mg_image.specs.Tables.{EachStand, IsOnce, Layout, pages_of, stands_of, table_at}
-use Rattle.mg_image_overlays.specs.KeptImages.{keeping}
+use Rattle.mg_image_overlays.specs.kept.KeptImages.{keeping}
 use Rattle.mg_entry_overlays.specs.Entered.{ShowsEntries}
 use Rattle.mg_entry_overlays.specs.EntryBatches.{LaysEntries}
 use Rattle.mg_entry_overlays.specs.Retreed.{LeavesTables, Trees, retreed}

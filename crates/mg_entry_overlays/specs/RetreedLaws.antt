@@ -2,10 +2,10 @@
 use Rattle.std.proofs.Common.{◌≡◌, ◌⊎◌, inl, inr, refl, ap, ℕ, List, [], ◌∷◌, ◌++◌, Option, Some}
 use Rattle.std.specs.Prelude.{if◌then◌else◌, map}
 use Rattle.mg_image.specs.Tables.{Has, Layout, Stand, has, stands_of, table_at}
-use Rattle.mg_image_overlays.specs.Growth.{has_back, has_either, has_front}
-use Rattle.mg_image_overlays.specs.KeptImages.{AreFrontStands, all_trees}
-use Rattle.mg_image_overlays.specs.Kinds.{pointers_of}
-use Rattle.mg_image_overlays.specs.Reach.{front_has}
+use Rattle.mg_image_overlays.specs.pages.Growth.{has_back, has_either, has_front}
+use Rattle.mg_image_overlays.specs.kept.KeptImages.{AreFrontStands, all_trees}
+use Rattle.mg_image_overlays.specs.pages.Kinds.{pointers_of}
+use Rattle.mg_image_overlays.specs.pages.Reach.{front_has}
 use Rattle.mg_model.specs.declared.table.Table.{Table}
 use Rattle.mg_entry_overlays.specs.Retreed.{Trees, held_pages, retree, retreed}
 

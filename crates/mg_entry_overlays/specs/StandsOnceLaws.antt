@@ -8,11 +8,11 @@ use Rattle.mg_image.specs.Form.{Pages}
 use Rattle.mg_image.specs.Indexes.{AreTrees}
 use Rattle.mg_image.specs.Sound.{HasTablePages, IsTableData, IsTablePointer}
 use Rattle.mg_image.specs.Tables.{EachFrom, EachStand, Has, IsOnce, Stand, pages_of, tree_pages}
-use Rattle.mg_image_overlays.specs.DataPages.{all_passes, kind_of}
-use Rattle.mg_image_overlays.specs.Growth.{has_back, has_either, has_front}
-use Rattle.mg_image_overlays.specs.KeptImages.{EachBehind, StandsBehind}
-use Rattle.mg_image_overlays.specs.Reach.{once_apart, once_back, once_front}
-use Rattle.mg_image_overlays.specs.Trees.{trees_seven}
+use Rattle.mg_image_overlays.specs.pages.DataPages.{all_passes, kind_of}
+use Rattle.mg_image_overlays.specs.pages.Growth.{has_back, has_either, has_front}
+use Rattle.mg_image_overlays.specs.kept.KeptImages.{EachBehind, StandsBehind}
+use Rattle.mg_image_overlays.specs.pages.Reach.{once_apart, once_back, once_front}
+use Rattle.mg_image_overlays.specs.pages.Trees.{trees_seven}
 use Rattle.mg_model.specs.declared.table.Index.{Index}
 use Rattle.mg_pointer.specs.PointerPage.{pointer_checks}
 use Rattle.mg_entry_overlays.specs.Retreed.{Trees, held_pages, trees_pages}

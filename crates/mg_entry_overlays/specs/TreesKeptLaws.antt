@@ -11,7 +11,7 @@ use Rattle.mg_image.specs.Form.{Pages, Row}
 use Rattle.mg_image.specs.Indexes.{AreTrees, IsFoundIn, index_entry}
 use Rattle.mg_image.specs.Sound.{HasTablePages}
 use Rattle.mg_image.specs.Tables.{EachStand, Stand, has, table_at}
-use Rattle.mg_image_overlays.specs.KeptImages.{AreFrontStands, EachBehind, StandsBehind}
+use Rattle.mg_image_overlays.specs.kept.KeptImages.{AreFrontStands, EachBehind, StandsBehind}
 use Rattle.mg_model.specs.declared.table.Index.{Index}
 use Rattle.mg_model.specs.declared.table.Table.{Table}
 use Rattle.mg_tree_overlays.specs.BatchLaws.{batch_kept}

@@ -13,9 +13,9 @@ use Rattle.mg_image.specs.RecordRules.{AreRecords, Facts}
 use Rattle.mg_image.specs.Records.{Reading, cells_of, slot_cell}
 use Rattle.mg_image.specs.Sound.{HasTablePages, IsIndexed, IsSoundBy, IsTableData, IsTablePointer, facts_by}
 use Rattle.mg_image.specs.Tables.{EachStand, Has, IsOnce, Layout, Stand, has, pages_of, stands_of, table_at}
-use Rattle.mg_image_overlays.specs.Reach.{has_it}
-use Rattle.mg_image_overlays.specs.Grow.{header_grows, header_is, tips_are, transactions_grow}
-use Rattle.mg_image_overlays.specs.Growth.{has_back, has_front, wanted_still}
+use Rattle.mg_image_overlays.specs.pages.Reach.{has_it}
+use Rattle.mg_image_overlays.specs.pages.Grow.{header_grows, header_is, tips_are, transactions_grow}
+use Rattle.mg_image_overlays.specs.pages.Growth.{has_back, has_front, wanted_still}
 use Rattle.mg_base.specs.declared.numbers.RecId.{RecId}
 use Rattle.mg_model.specs.declared.table.Table.{Table}
 use Rattle.mg_pointer.specs.PointerPage.{next_in, pointer_checks}

@@ -11,9 +11,9 @@ use Rattle.mg_image.specs.Reached.{tips_below, tips_of}
 use Rattle.mg_image.specs.Records.{Reading}
 use Rattle.mg_image.specs.Sound.{HasTransactions, IsSoundBy}
 use Rattle.mg_image.specs.Tables.{EachStand, Has, IsOnce, Layout, pages_of, stands_of}
-use Rattle.mg_image_overlays.specs.DataPages.{kind_of}
-use Rattle.mg_image_overlays.specs.Kinds.{HasNoSequences}
-use Rattle.mg_image_overlays.specs.Reach.{once_apart, once_back, once_front}
+use Rattle.mg_image_overlays.specs.pages.DataPages.{kind_of}
+use Rattle.mg_image_overlays.specs.pages.Kinds.{HasNoSequences}
+use Rattle.mg_image_overlays.specs.pages.Reach.{once_apart, once_back, once_front}
 use Rattle.mg_tree_overlays.specs.TreeOnceLaws.{once_both}
 use Rattle.mg_entry_overlays.specs.Retreed.{LeavesTables, Trees, held_pages, retreed, trees_pages}
 use Rattle.mg_entry_overlays.specs.RetreedLaws.{held_same}

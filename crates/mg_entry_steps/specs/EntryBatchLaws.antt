@@ -6,8 +6,8 @@ use Rattle.mg_base.specs.Image.{Image}
 use Rattle.mg_base.specs.declared.transaction.TxState.{TxState}
 use Rattle.mg_btree.specs.Changing.{HasNoInventory}
 use Rattle.mg_btree.specs.Inserting.{PutsAndTakes}
-use Rattle.mg_engine_steps.specs.Knowing.{WasChanged}
-use Rattle.mg_engine_steps.specs.Standing.{Standing}
+use Rattle.mg_engine_steps.specs.writes.Knowing.{WasChanged}
+use Rattle.mg_engine_steps.specs.standing.Standing.{Standing}
 use Rattle.mg_entries.specs.Entries.{PutsEntry}
 use Rattle.mg_entry_overlays.specs.Entered.{ShowsEntries}
 use Rattle.mg_entry_overlays.specs.EntryBatches.{LaysEntries}
@@ -19,10 +19,10 @@ use Rattle.mg_image.specs.Indexes.{AreTrees, Finds, IsTree}
 use Rattle.mg_image.specs.Records.{Reading}
 use Rattle.mg_image.specs.Sound.{HasTablePages, IsSoundBy}
 use Rattle.mg_image.specs.Tables.{EachStand, Layout, Stand}
-use Rattle.mg_image_overlays.specs.Grow.{each_mid}
-use Rattle.mg_image_overlays.specs.Growing.{IsTableOf}
-use Rattle.mg_image_overlays.specs.KeptImages.{keeping}
-use Rattle.mg_image_overlays.specs.Whose.{IsTableFor}
+use Rattle.mg_image_overlays.specs.pages.Grow.{each_mid}
+use Rattle.mg_image_overlays.specs.tables.Growing.{IsTableOf}
+use Rattle.mg_image_overlays.specs.kept.KeptImages.{keeping}
+use Rattle.mg_image_overlays.specs.names.Whose.{IsTableFor}
 use Rattle.mg_index_overlays.specs.IndexBatches.{PutsChanges}
 use Rattle.mg_index_overlays.specs.SoundLaws.{tree_inventory}
 use Rattle.mg_model.specs.History.{Entries}

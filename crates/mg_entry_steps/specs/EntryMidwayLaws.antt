@@ -2,22 +2,22 @@
 use Rattle.std.proofs.Common.{◌∙◌, ◌∷◌, refl, sym, ℕ, List}
 use Rattle.mg_base.specs.Disk.{Meaning}
 use Rattle.mg_base.specs.Image.{Image}
-use Rattle.mg_engine_steps.specs.Again.{again}
-use Rattle.mg_engine_steps.specs.Batches.{RowsLastStill}
-use Rattle.mg_engine_steps.specs.Knowing.{WasChanged}
-use Rattle.mg_engine_steps.specs.Midway.{GoesBack, IsMidway}
-use Rattle.mg_engine_steps.specs.MidwayLaws.{midway_on}
-use Rattle.mg_engine_steps.specs.Shown.{ShowsMidway}
-use Rattle.mg_engine_steps.specs.Standing.{Remembers, ShowsHistory, Standing}
-use Rattle.mg_engine_steps.specs.WritesLaws.{finds_on}
+use Rattle.mg_engine_steps.specs.backs.Again.{again}
+use Rattle.mg_engine_steps.specs.writes.Batches.{RowsLastStill}
+use Rattle.mg_engine_steps.specs.writes.Knowing.{WasChanged}
+use Rattle.mg_engine_steps.specs.backs.Midway.{GoesBack, IsMidway}
+use Rattle.mg_engine_steps.specs.backs.MidwayLaws.{midway_on}
+use Rattle.mg_engine_steps.specs.backs.Shown.{ShowsMidway}
+use Rattle.mg_engine_steps.specs.standing.Standing.{Remembers, ShowsHistory, Standing}
+use Rattle.mg_engine_steps.specs.writes.WritesLaws.{finds_on}
 use Rattle.mg_entries.specs.Entries.{PutsEntry}
 use Rattle.mg_entry_overlays.specs.Entered.{ShowsEntries}
 use Rattle.mg_entry_overlays.specs.Laws.{EntriesShow}
 use Rattle.mg_entry_ties.specs.IndexPlaces.{HasRoot}
 use Rattle.mg_entry_ties.specs.Laws.{InsertionsKeep, InsertionsLay, TablesHaveIndexes}
 use Rattle.mg_image.specs.Form.{Form, Pages}
-use Rattle.mg_image_overlays.specs.Growing.{IsTableOf}
-use Rattle.mg_image_overlays.specs.Whose.{IsTableFor}
+use Rattle.mg_image_overlays.specs.tables.Growing.{IsTableOf}
+use Rattle.mg_image_overlays.specs.names.Whose.{IsTableFor}
 use Rattle.mg_model.specs.History.{Entries, Entry}
 use Rattle.mg_model.specs.Legal.{IsLegal, MayBegin}
 use Rattle.mg_model.specs.Openings.{everyone}

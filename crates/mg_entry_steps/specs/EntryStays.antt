@@ -2,9 +2,9 @@
 use Rattle.std.specs.Prelude.{◌≡◌, ℕ, Some}
 use Rattle.mg_base.specs.Disk.{Meaning}
 use Rattle.mg_base.specs.Image.{Image}
-use Rattle.mg_engine_steps.specs.Knowing.{WasChanged}
-use Rattle.mg_engine_steps.specs.Rows.{HasStayed}
-use Rattle.mg_engine_steps.specs.Standing.{Standing, Stands}
+use Rattle.mg_engine_steps.specs.writes.Knowing.{WasChanged}
+use Rattle.mg_engine_steps.specs.writes.Rows.{HasStayed}
+use Rattle.mg_engine_steps.specs.standing.Standing.{Standing, Stands}
 use Rattle.mg_entries.specs.Entries.{PutsEntry}
 use Rattle.mg_entry_overlays.specs.Entered.{ShowsEntries}
 use Rattle.mg_entry_ties.specs.IndexPlaces.{HasRoot}
@@ -12,8 +12,8 @@ use Rattle.mg_image.specs.Form.{Form}
 use Rattle.mg_image.specs.Indexes.{Finds}
 use Rattle.mg_image.specs.Records.{Reading}
 use Rattle.mg_image.specs.Tables.{Layout}
-use Rattle.mg_image_overlays.specs.Growing.{IsTableOf}
-use Rattle.mg_image_overlays.specs.Whose.{IsTableFor}
+use Rattle.mg_image_overlays.specs.tables.Growing.{IsTableOf}
+use Rattle.mg_image_overlays.specs.names.Whose.{IsTableFor}
 use Rattle.mg_lasting.specs.Lasting.{LastsOn}
 use Rattle.mg_model.specs.History.{Entries}
 use Rattle.mg_model.specs.Openings.{everyone}

@@ -2,21 +2,21 @@
 use Rattle.std.proofs.Common.{◌∙◌, refl, ℕ, Some}
 use Rattle.mg_base.specs.Disk.{Meaning}
 use Rattle.mg_base.specs.Image.{Image}
-use Rattle.mg_engine_steps.specs.Batches.{RowsLastStill}
-use Rattle.mg_engine_steps.specs.Caches.{kept_now, row_changed}
-use Rattle.mg_engine_steps.specs.Knowing.{WasChanged}
-use Rattle.mg_engine_steps.specs.Rows.{HasStayed}
-use Rattle.mg_engine_steps.specs.SpotLaws.{versions_on}
-use Rattle.mg_engine_steps.specs.Standing.{ShowsHistory, Standing, Stands}
-use Rattle.mg_engine_steps.specs.WritesLaws.{finds_on}
+use Rattle.mg_engine_steps.specs.writes.Batches.{RowsLastStill}
+use Rattle.mg_engine_steps.specs.writes.Caches.{kept_now, row_changed}
+use Rattle.mg_engine_steps.specs.writes.Knowing.{WasChanged}
+use Rattle.mg_engine_steps.specs.writes.Rows.{HasStayed}
+use Rattle.mg_engine_steps.specs.writes.SpotLaws.{versions_on}
+use Rattle.mg_engine_steps.specs.standing.Standing.{ShowsHistory, Standing, Stands}
+use Rattle.mg_engine_steps.specs.writes.WritesLaws.{finds_on}
 use Rattle.mg_entries.specs.Entries.{PutsEntry}
 use Rattle.mg_entry_overlays.specs.Entered.{ShowsEntries}
 use Rattle.mg_entry_overlays.specs.Laws.{EntriesShow}
 use Rattle.mg_entry_ties.specs.IndexPlaces.{HasRoot}
 use Rattle.mg_entry_ties.specs.Laws.{InsertionsKeep, InsertionsLay, TablesHaveIndexes}
 use Rattle.mg_image.specs.Form.{Form, Pages}
-use Rattle.mg_image_overlays.specs.Growing.{IsTableOf}
-use Rattle.mg_image_overlays.specs.Whose.{IsTableFor}
+use Rattle.mg_image_overlays.specs.tables.Growing.{IsTableOf}
+use Rattle.mg_image_overlays.specs.names.Whose.{IsTableFor}
 use Rattle.mg_lasting.specs.Crashes.{HoldsAcknowledged, LeavesSince}
 use Rattle.mg_lasting.specs.Lasting.{LastsOn}
 use Rattle.mg_model.specs.History.{Entries}

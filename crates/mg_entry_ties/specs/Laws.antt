@@ -13,8 +13,8 @@ use Rattle.mg_pool.specs.Batch.{Changed, IsLawful, content_in, lists}
 use Rattle.mg_image.specs.Form.{Form, Pages}
 use Rattle.mg_image.specs.Indexes.{IsTree}
 use Rattle.mg_image.specs.Sound.{HasInventory}
-use Rattle.mg_image_overlays.specs.KeptImages.{keeping}
-use Rattle.mg_image_overlays.specs.Whose.{IsTableFor}
+use Rattle.mg_image_overlays.specs.kept.KeptImages.{keeping}
+use Rattle.mg_image_overlays.specs.names.Whose.{IsTableFor}
 use Rattle.mg_space.specs.FreePages.{HasRegions}
 use Rattle.mg_space.specs.Taking.{IsGeometry, RefusesTake}
 use Rattle.mg_space.specs.declared.fault.SpaceFault.{SpaceFault}

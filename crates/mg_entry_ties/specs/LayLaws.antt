@@ -18,14 +18,14 @@ use Rattle.mg_image.specs.Reached.{tips_of}
 use Rattle.mg_image.specs.Records.{Reading}
 use Rattle.mg_image.specs.Sound.{HasInventory, HasRegion, HasTablePages, IsSoundBy}
 use Rattle.mg_image.specs.Tables.{EachStand, Has, IsOnce, Layout, LinkChain, PointerChain, Stand, ended, goes, pages_of, stands_of}
-use Rattle.mg_image_overlays.specs.DataPages.{all_passes, byte_blank, kind_of}
-use Rattle.mg_image_overlays.specs.Growing.{IsTableOf}
-use Rattle.mg_image_overlays.specs.Growth.{has_back, has_front}
-use Rattle.mg_image_overlays.specs.KeptImages.{all_trees}
-use Rattle.mg_image_overlays.specs.Kinds.{HasNoSequences, pointers_of}
-use Rattle.mg_image_overlays.specs.NotThere.{IsNotThere, IsOutOf}
-use Rattle.mg_image_overlays.specs.Reach.{once_back, once_front}
-use Rattle.mg_image_overlays.specs.Trees.{seven}
+use Rattle.mg_image_overlays.specs.pages.DataPages.{all_passes, byte_blank, kind_of}
+use Rattle.mg_image_overlays.specs.tables.Growing.{IsTableOf}
+use Rattle.mg_image_overlays.specs.pages.Growth.{has_back, has_front}
+use Rattle.mg_image_overlays.specs.kept.KeptImages.{all_trees}
+use Rattle.mg_image_overlays.specs.pages.Kinds.{HasNoSequences, pointers_of}
+use Rattle.mg_image_overlays.specs.names.NotThere.{IsNotThere, IsOutOf}
+use Rattle.mg_image_overlays.specs.pages.Reach.{once_back, once_front}
+use Rattle.mg_image_overlays.specs.pages.Trees.{seven}
 use Rattle.mg_overlays.specs.Overlays.{left_state}
 use Rattle.mg_space.specs.TakingLaws.{bits_some}
 use Rattle.mg_tree_overlays.specs.GrowParts.{root_in}

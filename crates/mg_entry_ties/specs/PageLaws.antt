@@ -6,7 +6,7 @@ use Rattle.mg_base.specs.declared.geometry.TheConstants.{GREATEST_LIMIT}
 use Rattle.mg_image.specs.Form.{Pages}
 use Rattle.mg_image.specs.Inventory.{inventory_page}
 use Rattle.mg_image.specs.Sound.{HasInventory, HasRegion}
-use Rattle.mg_image_overlays.specs.Growth.{wanted_still}
+use Rattle.mg_image_overlays.specs.pages.Growth.{wanted_still}
 use Rattle.mg_pip.specs.PipPage.{bits, pip_checks}
 use Rattle.mg_space.specs.Taking.{IsGeometry}
 use Rattle.mg_space.specs.TakingLaws.{own_region, takes_keeps, takes_region}

@@ -9,12 +9,12 @@ use Rattle.mg_image.specs.Indexes.{AreTrees, IsTree}
 use Rattle.mg_image.specs.Inventory.{is_used}
 use Rattle.mg_image.specs.Sound.{HasTablePages}
 use Rattle.mg_image.specs.Tables.{EachStand, Has, IsOnce, Stand, tree_pages}
-use Rattle.mg_image_overlays.specs.Growth.{has_back, has_either, has_front}
-use Rattle.mg_image_overlays.specs.KeptImages.{all_trees}
-use Rattle.mg_image_overlays.specs.OneChain.{one_tree}
-use Rattle.mg_image_overlays.specs.Reach.{once_apart, once_back, once_front}
-use Rattle.mg_image_overlays.specs.StandOwners.{IsOwned, of_nodes, stand_owned}
-use Rattle.mg_image_overlays.specs.Trees.{seven}
+use Rattle.mg_image_overlays.specs.pages.Growth.{has_back, has_either, has_front}
+use Rattle.mg_image_overlays.specs.kept.KeptImages.{all_trees}
+use Rattle.mg_image_overlays.specs.tables.OneChain.{one_tree}
+use Rattle.mg_image_overlays.specs.pages.Reach.{once_apart, once_back, once_front}
+use Rattle.mg_image_overlays.specs.tables.StandOwners.{IsOwned, of_nodes, stand_owned}
+use Rattle.mg_image_overlays.specs.pages.Trees.{seven}
 use Rattle.mg_tree_overlays.specs.TreeBatches.{Add, ChangesTree, Stay}
 use Rattle.mg_tree_overlays.specs.TreeOnceLaws.{has_placed, in_levels}
 use Rattle.mg_tree_overlays.specs.TreePages.{all_of}

@@ -7,7 +7,7 @@ use Rattle.mg_heap.specs.Reading.{IsSomeData}
 use Rattle.mg_heap.specs.Table.{IsPointerAt}
 use Rattle.mg_image.specs.Form.{Pages}
 use Rattle.mg_image.specs.Inventory.{inventory_page}
-use Rattle.mg_image_overlays.specs.DataPages.{all_passes, byte_blank, kind_of}
+use Rattle.mg_image_overlays.specs.pages.DataPages.{all_passes, byte_blank, kind_of}
 use Rattle.mg_pip.specs.PipPage.{pip_checks}
 use Rattle.mg_pointer.specs.PointerPage.{pointer_checks}
 use Rattle.mg_space.specs.Taking.{IsLawfulRegion, taking_limit}

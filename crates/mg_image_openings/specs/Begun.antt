@@ -36,7 +36,7 @@ use Rattle.mg_image.specs.RecordRules as records
 use Rattle.mg_image.specs.Records.{Reading, change_in, key_of, record_key, writer}
 use Rattle.mg_image.specs.Sound.{IsSound, facts_of}
 use Rattle.mg_image.specs.Tables.{Layout, stands_of}
-use Rattle.mg_image_overlays.specs.TableOwners.{IsOneOf, has_stand, named_other}
+use Rattle.mg_image_overlays.specs.tables.TableOwners.{IsOneOf, has_stand, named_other}
 use Rattle.mg_image_openings.specs.Catalogs.{chosen_told, db_told, every_shape, nobody, now_shape, shape_grows, stored_with}
 use Rattle.mg_image_openings.specs.Chosen.{KeyedRow, as_change, as_placed, catalog_is, each_in, each_mapped, everyone_is, own_is, placed_is}
 use Rattle.mg_image_openings.specs.Fits.{SpellsFitting, shown_fits, version_fits}

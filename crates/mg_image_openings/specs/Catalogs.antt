@@ -28,7 +28,7 @@ use Rattle.mg_image.specs.RecordRules.{Each, EachBack, Facts, IsInLimbo, TakesKe
 use Rattle.mg_image.specs.Records.{Reading, change_in, key_of, record_key, shown, writer}
 use Rattle.mg_image.specs.Sound.{IsSoundBy, facts_by}
 use Rattle.mg_image.specs.Tables.{Layout, stands_of}
-use Rattle.mg_image_overlays.specs.TableOwners.{IsOneOf, catalog_of, has_stand, one_each, table_named}
+use Rattle.mg_image_overlays.specs.tables.TableOwners.{IsOneOf, catalog_of, has_stand, one_each, table_named}
 use Rattle.mg_image_openings.specs.Chosen.{IsChosen, IsNotChosen, as_change, chosen_or_not, nobody_is}
 use Rattle.mg_image_openings.specs.Items.{GivesLimbo, limbo_change, limbo_from, limbo_list, limbo_listed, rows_are, rows_of, told_of}
 use Rattle.mg_image_openings.specs.Gathered.{IsIn}

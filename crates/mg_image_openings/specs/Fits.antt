@@ -28,7 +28,7 @@ use Rattle.mg_image.specs.RecordRules.{Each, Facts, IsVersion, columns_for, tabl
 use Rattle.mg_image.specs.Records.{Reading, record_key, shown, writer}
 use Rattle.mg_image.specs.Sound.{IsSoundBy, facts_by}
 use Rattle.mg_image.specs.Tables.{Layout, stands_of}
-use Rattle.mg_image_overlays.specs.TableOwners.{IsOneOf, has_stand, named_other, one_each}
+use Rattle.mg_image_overlays.specs.tables.TableOwners.{IsOneOf, has_stand, named_other, one_each}
 
 -- ---- columns that came later may be NULL
 

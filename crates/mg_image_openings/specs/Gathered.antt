@@ -9,7 +9,7 @@ use Rattle.mg_model.specs.Changes.{has_change, is_at, row_at, same_key, same_nam
 use Rattle.mg_model.specs.Openings.{HaveOwnKeys}
 use Rattle.mg_model.specs.ReadLaws.{same_name_itself}
 use Rattle.mg_catalog.specs.KeyLaws.{keys_equal, same_key_self}
-use Rattle.mg_image_overlays.specs.Places.{HasPlace}
+use Rattle.mg_image_overlays.specs.records.Places.{HasPlace}
 
 -- a thing is one of these
 abbrev pub IsIn : {A : Type 0} → List A → A → Type 0

@@ -21,9 +21,9 @@ use Rattle.mg_image.specs.RecordRules.{Facts, committed_in, table_in}
 use Rattle.mg_image.specs.Records.{Change, Erases, Puts, Reading, change_in, key_of, shown, writer}
 use Rattle.mg_image.specs.Sound.{IsSoundBy, facts_by}
 use Rattle.mg_image.specs.Tables.{Layout, stands_of}
-use Rattle.mg_image_overlays.specs.HeldSome.{limbo_true, not_empty, one_limbo, one_record}
-use Rattle.mg_image_overlays.specs.Listed.{is_catalog}
-use Rattle.mg_image_overlays.specs.Places.{has_place, places_of}
+use Rattle.mg_image_overlays.specs.kept.HeldSome.{limbo_true, not_empty, one_limbo, one_record}
+use Rattle.mg_image_overlays.specs.records.Listed.{is_catalog}
+use Rattle.mg_image_overlays.specs.records.Places.{has_place, places_of}
 use Rattle.mg_image_openings.specs.Chosen.{IsChosen, IsNotChosen, KeyedRow, any_change, as_change, chosen_or_not}
 use Rattle.mg_image_openings.specs.Gathered.{IsFirst, IsGathering, IsIn, first_of, gathered, gathering, has_it, kept, none_of}
 

@@ -10,7 +10,7 @@ use Rattle.mg_value.specs.Rows.{RowFits, columns_of}
 use Rattle.mg_image.specs.Form.{Form, packed_coding, plain_coding}
 use Rattle.mg_image.specs.Histories.{Begins, GivesOpening}
 use Rattle.mg_image.specs.Opening.{Holds, IsNew, Opened, sound_image, unmade_image}
-use Rattle.mg_image_overlays.specs.HeldSome.{sound_opens}
+use Rattle.mg_image_overlays.specs.kept.HeldSome.{sound_opens}
 use Rattle.mg_image_openings.specs.Begun.{begins, begun, whole}
 use Rattle.mg_image_openings.specs.Fits.{SpellsFitting, first_fits}
 use Rattle.mg_image_openings.specs.Laws.{OpenedBegin, SoundHaveOpenings}

@@ -11,8 +11,8 @@
 //! pool and overlay at once, and `MidwayLaws` proves the laws. There is no program here: each function
 //! does nothing, and its contract is a law.
 
-ghost use Rattle.mg_image_overlays.specs.PageLaws.{CommitChanges, MidwayLeaves};
-ghost use Rattle.mg_image_overlays.specs.PageLaws.{MidwayWritesAll, MidwayWrittenAll};
+ghost use Rattle.mg_image_overlays.specs.transactions.PageLaws.{CommitChanges, MidwayLeaves};
+ghost use Rattle.mg_image_overlays.specs.transactions.PageLaws.{MidwayWritesAll, MidwayWrittenAll};
 ghost use Rattle.mg_image.specs.Form.{packed_form};
 
 /// The bits of a transaction that needs no page any more are changed to those of a committed one.

@@ -17,10 +17,10 @@
 //! and after it in `Knowing`, and one file a batch. There is no program here: each function's contract is
 //! a law.
 
-ghost use Rattle.mg_image_overlays.specs.FirstGrown.{AddGrownKeeps};
-ghost use Rattle.mg_image_overlays.specs.GrowthEvery.{GrowthKeeps};
-ghost use Rattle.mg_image_overlays.specs.MoveGrown.{MoveGrownKeeps};
-ghost use Rattle.mg_image_overlays.specs.PushGrown.{PushGrownKeeps};
+ghost use Rattle.mg_image_overlays.specs.tables.FirstGrown.{AddGrownKeeps};
+ghost use Rattle.mg_image_overlays.specs.tables.GrowthEvery.{GrowthKeeps};
+ghost use Rattle.mg_image_overlays.specs.tables.MoveGrown.{MoveGrownKeeps};
+ghost use Rattle.mg_image_overlays.specs.tables.PushGrown.{PushGrownKeeps};
 ghost use Rattle.mg_image.specs.Form.{packed_form};
 
 use mg_image::one_reading;

@@ -1,6 +1,6 @@
 //! What a sound image holds. The function does nothing: its contract is the law.
 
-ghost use Rattle.mg_image_overlays.specs.HeldLaws.{SoundHolds, SoundOpens};
+ghost use Rattle.mg_image_overlays.specs.kept.HeldLaws.{SoundHolds, SoundOpens};
 ghost use Rattle.mg_image.specs.Form.{packed_form};
 
 /// Each sound image holds a database, with the changes of its transactions in limbo: under a given state

@@ -18,9 +18,9 @@
 //! a law.
 
 ghost use Rattle.mg_image.specs.Form.{packed_form};
-ghost use Rattle.mg_image_overlays.specs.KeptLaws.{BeginKeepsAll, ChosenIsReady, CommitKeepsAll};
-ghost use Rattle.mg_image_overlays.specs.KeptLaws.{CrashesLeaveAll, RollbackKeepsAll, StartKeepsAll};
-ghost use Rattle.mg_image_overlays.specs.KeptLaws.{WritesKeepAll};
+ghost use Rattle.mg_image_overlays.specs.kept.KeptLaws.{BeginKeepsAll, ChosenIsReady, CommitKeepsAll};
+ghost use Rattle.mg_image_overlays.specs.kept.KeptLaws.{CrashesLeaveAll, RollbackKeepsAll, StartKeepsAll};
+ghost use Rattle.mg_image_overlays.specs.kept.KeptLaws.{WritesKeepAll};
 
 /// Page writes keep what every overlay has to be.
 pub fn page_writes_keep()

@@ -9,7 +9,7 @@
 //! contract is the law.
 
 ghost use Rattle.mg_image.specs.Form.{packed_form};
-ghost use Rattle.mg_image_overlays.specs.OneLayout.{StandsOneWay};
+ghost use Rattle.mg_image_overlays.specs.tables.OneLayout.{StandsOneWay};
 
 use mg_image::one_reading;
 

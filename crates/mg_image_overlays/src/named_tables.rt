@@ -1,7 +1,7 @@
 //! Whose table it is, by names. Each function's contract is the law.
 
 ghost use Rattle.mg_image.specs.Form.{packed_form};
-ghost use Rattle.mg_image_overlays.specs.NamedTables.{NamesTellTables};
+ghost use Rattle.mg_image_overlays.specs.names.NamedTables.{NamesTellTables};
 
 use mg_image::one_reading;
 

@@ -1,9 +1,9 @@
 //! A transaction makes tables. Each function does nothing: its contract is the law.
 
 ghost use Rattle.mg_image.specs.Form.{packed_coding, packed_form};
-ghost use Rattle.mg_image_overlays.specs.JoinedRows.{JoinNames};
-ghost use Rattle.mg_image_overlays.specs.MadeRows.{MakersName};
-ghost use Rattle.mg_image_overlays.specs.Making.{MakeKeeps};
+ghost use Rattle.mg_image_overlays.specs.names.JoinedRows.{JoinNames};
+ghost use Rattle.mg_image_overlays.specs.names.MadeRows.{MakersName};
+ghost use Rattle.mg_image_overlays.specs.names.Making.{MakeKeeps};
 
 /// Of catalog rows alone: with the rows of other tables a catalog is lawful and names those too, each in
 /// its place.

@@ -21,9 +21,9 @@
 //! `ReplacePart`, `MovePart`, `BackPart`, and to every overlay `ReplaceEvery`, `MoveEvery`, `BackEvery`.
 
 ghost use Rattle.mg_image.specs.Form.{packed_form};
-ghost use Rattle.mg_image_overlays.specs.BackEvery.{DeadOutKeeps, TakeBackKeeps};
-ghost use Rattle.mg_image_overlays.specs.MoveEvery.{MoveKeeps};
-ghost use Rattle.mg_image_overlays.specs.ReplaceEvery.{ReplaceKeeps};
+ghost use Rattle.mg_image_overlays.specs.records.BackEvery.{DeadOutKeeps, TakeBackKeeps};
+ghost use Rattle.mg_image_overlays.specs.records.MoveEvery.{MoveKeeps};
+ghost use Rattle.mg_image_overlays.specs.records.ReplaceEvery.{ReplaceKeeps};
 
 use mg_image::one_reading;
 

@@ -14,9 +14,9 @@
 //! All stands in `specs/`: `Draw`; `GrowPages`, `GrowKept` and `GrowEvery`; `Creating`; `FrameKept`.
 
 ghost use Rattle.mg_image.specs.Form.{packed_form};
-ghost use Rattle.mg_image_overlays.specs.Creating.{CreateKeeps};
-ghost use Rattle.mg_image_overlays.specs.Draw.{DrawKeeps};
-ghost use Rattle.mg_image_overlays.specs.GrowEvery.{GrowKeeps};
+ghost use Rattle.mg_image_overlays.specs.names.Creating.{CreateKeeps};
+ghost use Rattle.mg_image_overlays.specs.pages.Draw.{DrawKeeps};
+ghost use Rattle.mg_image_overlays.specs.pages.GrowEvery.{GrowKeeps};
 
 /// A number is drawn.
 pub fn draws_keep()

@@ -9,8 +9,8 @@
 //! All stands in `specs/`. There is no program here: each function does nothing, and its contract is a law.
 
 ghost use Rattle.mg_image.specs.Form.{packed_form};
-ghost use Rattle.mg_image_overlays.specs.TableLaws.{DataPagesAreIts, DataPagesLeave, LayoutsStay, RecordsStay};
-ghost use Rattle.mg_image_overlays.specs.TableLaws.{TablesAreOne};
+ghost use Rattle.mg_image_overlays.specs.tables.TableLaws.{DataPagesAreIts, DataPagesLeave, LayoutsStay, RecordsStay};
+ghost use Rattle.mg_image_overlays.specs.tables.TableLaws.{TablesAreOne};
 
 use mg_image::one_reading;
 

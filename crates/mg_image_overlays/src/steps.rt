@@ -16,7 +16,7 @@
 //! `Rest`, `Frame`, `Growth`, `Grow`, `Bits`, `Kinds`, `Trees`. Of both: `CommitSound`.
 
 ghost use Rattle.mg_image.specs.Form.{packed_form};
-ghost use Rattle.mg_image_overlays.specs.StepsLaws.{BitsStaySound, CommitStaysSound, TablesHaveMakers};
+ghost use Rattle.mg_image_overlays.specs.kept.StepsLaws.{BitsStaySound, CommitStaysSound, TablesHaveMakers};
 
 /// A transaction in limbo is committed: a sound image stays sound, tables that it has made are named
 /// by committed rows then, and what its versions show is found.

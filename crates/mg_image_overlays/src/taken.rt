@@ -19,8 +19,8 @@
 //! page; `ExtendEvery`. There is no program here: each function does nothing, and its contract is a law.
 
 ghost use Rattle.mg_image.specs.Form.{packed_form};
-ghost use Rattle.mg_image_overlays.specs.DrawPage.{DrawPageKeeps};
-ghost use Rattle.mg_image_overlays.specs.ExtendEvery.{EnterKeeps, LinkKeeps};
+ghost use Rattle.mg_image_overlays.specs.pages.DrawPage.{DrawPageKeeps};
+ghost use Rattle.mg_image_overlays.specs.pages.ExtendEvery.{EnterKeeps, LinkKeeps};
 
 /// A number is drawn with a new page of transactions.
 pub fn draws_with_a_page_keep()

@@ -9,12 +9,12 @@
 //! All stands in `specs/`. There is no program here.
 
 ghost use Rattle.mg_image.specs.Form.{packed_form};
-ghost use Rattle.mg_image_overlays.specs.BackFor.{TakeBackKeepsFor};
-ghost use Rattle.mg_image_overlays.specs.FirstFor.{AddKeepsFor};
-ghost use Rattle.mg_image_overlays.specs.GrowthFor.{GrowthKeepsFor};
-ghost use Rattle.mg_image_overlays.specs.MoveFor.{MoveKeepsFor};
-ghost use Rattle.mg_image_overlays.specs.PushFor.{PushKeepsFor};
-ghost use Rattle.mg_image_overlays.specs.ReplaceFor.{ReplaceKeepsFor};
+ghost use Rattle.mg_image_overlays.specs.tables.BackFor.{TakeBackKeepsFor};
+ghost use Rattle.mg_image_overlays.specs.tables.FirstFor.{AddKeepsFor};
+ghost use Rattle.mg_image_overlays.specs.tables.GrowthFor.{GrowthKeepsFor};
+ghost use Rattle.mg_image_overlays.specs.tables.MoveFor.{MoveKeepsFor};
+ghost use Rattle.mg_image_overlays.specs.tables.PushFor.{PushKeepsFor};
+ghost use Rattle.mg_image_overlays.specs.tables.ReplaceFor.{ReplaceKeepsFor};
 
 use mg_image::one_reading;
 

@@ -3,7 +3,7 @@ use Rattle.std.proofs.Common.{◌≡◌, ◌⊎◌, inl, inr, sym, subst, ℕ, f
 use Rattle.mg_careful.specs.CarefulWrite.{Cache, overlay}
 use Rattle.mg_image.specs.Indexes.{Finds, index_entry}
 use Rattle.mg_image.specs.Tables.{Has, tree_pages}
-use Rattle.mg_image_overlays.specs.Growth.{has_back, has_either, has_front}
+use Rattle.mg_image_overlays.specs.pages.Growth.{has_back, has_either, has_front}
 use Rattle.mg_tree_overlays.specs.TreePages.{all_of}
 use Rattle.mg_overlays.specs.Overlays.{IsCleanAsDisk, before}
 use Rattle.mg_tree_overlays.specs.EveryTreeLaws.{batches_keep_trees, trees_start, writes_keep_trees}

@@ -11,8 +11,8 @@ use Rattle.mg_image.specs.Inventory.{inventory_page}
 use Rattle.mg_image.specs.Reached.{tips_of}
 use Rattle.mg_image.specs.Sound.{HasInventory, HasRegion, HasTablePages}
 use Rattle.mg_image.specs.Tables.{EachStand, Has, IsOnce, Stand, pages_of, stands_of, tree_pages}
-use Rattle.mg_image_overlays.specs.DataPages.{all_passes, byte_blank, kind_of}
-use Rattle.mg_image_overlays.specs.Growth.{has_back, has_front}
+use Rattle.mg_image_overlays.specs.pages.DataPages.{all_passes, byte_blank, kind_of}
+use Rattle.mg_image_overlays.specs.pages.Growth.{has_back, has_front}
 use Rattle.mg_tree_overlays.specs.TreePages.{all_of}
 use Rattle.mg_pip.specs.PipPage.{bits}
 use Rattle.mg_tree_overlays.specs.StepLaws.{each_has}

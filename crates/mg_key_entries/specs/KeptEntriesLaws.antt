@@ -12,9 +12,9 @@ use Rattle.mg_image.specs.Indexes.{Finds, IsFoundIn}
 use Rattle.mg_image.specs.Records.{Reading, record_key, writer}
 use Rattle.mg_image.specs.Tables.{EachStand, Layout, Stand, stands_of, table_at}
 use Rattle.mg_image.specs.declared.entry.Entry.{Entry}
-use Rattle.mg_image_overlays.specs.Growing.{IsTableOf}
-use Rattle.mg_image_overlays.specs.Grow.{each_mid}
-use Rattle.mg_image_overlays.specs.OneTable.{table_at_stands}
+use Rattle.mg_image_overlays.specs.tables.Growing.{IsTableOf}
+use Rattle.mg_image_overlays.specs.pages.Grow.{each_mid}
+use Rattle.mg_image_overlays.specs.tables.OneTable.{table_at_stands}
 use Rattle.mg_model.specs.Changes.{same_name}
 use Rattle.mg_model.specs.declared.table.Index.{Index}
 use Rattle.mg_model.specs.declared.table.Table.{Table}

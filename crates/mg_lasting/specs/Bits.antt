@@ -6,8 +6,8 @@ use Rattle.mg_base.specs.declared.transaction.TxState.TheVariants.{Active, Limbo
 use Rattle.mg_careful.specs.CarefulWrite.{Pages}
 use Rattle.mg_image.specs.Inventory.{bits_state, last_sequence, next_of, settled, state_at}
 use Rattle.mg_image.specs.Tables.{Layout}
-use Rattle.mg_image_overlays.specs.Rest.{div_grows}
-use Rattle.mg_image_overlays.specs.KeptImages.{IsBehind}
+use Rattle.mg_image_overlays.specs.kept.Rest.{div_grows}
+use Rattle.mg_image_overlays.specs.kept.KeptImages.{IsBehind}
 use Rattle.mg_overlays.specs.Overlays.{left_by, left_state, nobody}
 use Rattle.mg_tip.specs.TipPage.{places, state_in}
 

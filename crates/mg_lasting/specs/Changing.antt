@@ -10,7 +10,7 @@ use Rattle.mg_model.specs.Legal.{IsLegal, MayBegin, is_durable}
 use Rattle.mg_model.specs.Machine.{next_number, state_of}
 use Rattle.mg_image.specs.Form.{Form}
 use Rattle.mg_image.specs.Inventory.{next_of}
-use Rattle.mg_image_overlays.specs.KeptImages.{keeping}
+use Rattle.mg_image_overlays.specs.kept.KeptImages.{keeping}
 use Rattle.mg_overlays.specs.Overlays.{EveryOverlay}
 use Rattle.mg_pool.specs.Change.{ChangesOverlays, ChangesPages}
 use Rattle.mg_pool.specs.Pool.{LeavesOverlays, cache_of, shown}

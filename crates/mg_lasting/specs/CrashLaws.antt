@@ -17,8 +17,8 @@ use Rattle.mg_model.specs.Legal.{IsLegal, after_durable, durable_count, is_durab
 use Rattle.mg_model.specs.Machine.{database, own, state_of}
 use Rattle.mg_image.specs.Form.{Form}
 use Rattle.mg_image.specs.Histories.{HoldsDurable, newest_at}
-use Rattle.mg_image_overlays.specs.HoldLaws.{HoldsAll, overlays_hold}
-use Rattle.mg_image_overlays.specs.MidwayLaws.{midway_leaves}
+use Rattle.mg_image_overlays.specs.kept.HoldLaws.{HoldsAll, overlays_hold}
+use Rattle.mg_image_overlays.specs.transactions.MidwayLaws.{midway_leaves}
 use Rattle.mg_lasting.specs.Crashes.{HoldsAcknowledged, HoldsFrom, asked, is_failed_write, may_last}
 use Rattle.mg_lasting.specs.CrashStatements.{DurableLeaves, FailedLeaves, MidwayHolds, OverlaysHold, QuietLeaves}
 

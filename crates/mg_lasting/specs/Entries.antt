@@ -18,8 +18,8 @@ use Rattle.mg_model.specs.History.{Begins, Effect, Ends, Entries, Entry, Gives, 
 use Rattle.mg_model.specs.Machine.{changes_in, database, deeds_by, is_of, next_after, next_number, own, state_after, state_of, steps}
 use Rattle.mg_model.specs.RowLaws.{row_at-append}
 use Rattle.mg_image.specs.Histories.{newest_at, row_change}
-use Rattle.mg_image_overlays.specs.CommitHeld.{after_change}
-use Rattle.mg_image_overlays.specs.CommitLaws.{BringsChanges, LeavesOthers}
+use Rattle.mg_image_overlays.specs.transactions.CommitHeld.{after_change}
+use Rattle.mg_image_overlays.specs.transactions.CommitLaws.{BringsChanges, LeavesOthers}
 use Rattle.mg_overlays.specs.Overlays.{OthersStay}
 
 -- an effect draws no number, ends nobody, and changes no row

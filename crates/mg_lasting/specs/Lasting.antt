@@ -9,9 +9,9 @@ use Rattle.mg_model.specs.Machine.{next_number, state_of}
 use Rattle.mg_image.specs.Form.{Form}
 use Rattle.mg_image.specs.Inventory.{next_of}
 use Rattle.mg_overlays.specs.Overlays.{EveryOverlay, IsCleanAsDisk, NeedsAllDirty}
-use Rattle.mg_image_overlays.specs.HoldLaws.{AreBits}
-use Rattle.mg_image_overlays.specs.KeptImages.{keeping}
-use Rattle.mg_image_overlays.specs.Midway.{AreBitsMidway, EveryMidway}
+use Rattle.mg_image_overlays.specs.kept.HoldLaws.{AreBits}
+use Rattle.mg_image_overlays.specs.kept.KeptImages.{keeping}
+use Rattle.mg_image_overlays.specs.transactions.Midway.{AreBitsMidway, EveryMidway}
 use Rattle.mg_pool.specs.Pool.{cache_of}
 use Rattle.mg_pool.specs.declared.pool.Pool.{Pool}
 use Rattle.mg_pool_overlays.specs.Needs.{Asked, Sessions, needs_by}

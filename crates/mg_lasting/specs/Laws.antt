@@ -12,7 +12,7 @@ use Rattle.mg_model.specs.Machine.{next_number, state_of}
 use Rattle.mg_image.specs.Form.{Form}
 use Rattle.mg_image.specs.Inventory.{next_of, state_at}
 use Rattle.mg_overlays.specs.Overlays.{ChangesCache, EveryOverlay, IsCleanAsDisk, NeedsAllDirty, NeedsOrGone, WritesPages, left_state, nobody}
-use Rattle.mg_image_overlays.specs.KeptImages.{keeping}
+use Rattle.mg_image_overlays.specs.kept.KeptImages.{keeping}
 use Rattle.mg_lasting.specs.Bits.{IsSettled}
 use Rattle.mg_lasting.specs.Entries.{is_idle}
 use Rattle.mg_lasting.specs.Lasting.{Lasts}

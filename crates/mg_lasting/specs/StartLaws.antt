@@ -18,8 +18,8 @@ use Rattle.mg_image.specs.Inventory.{next_of, state_at}
 use Rattle.mg_image.specs.Opening.{IsOpened, Opened}
 use Rattle.mg_image.specs.RecordRules.{committed_in}
 use Rattle.mg_image.specs.Sound.{IsSoundBy, facts_by}
-use Rattle.mg_image_overlays.specs.KeptImages.{keeping}
-use Rattle.mg_image_overlays.specs.StartLaws.{kept_by_itself}
+use Rattle.mg_image_overlays.specs.kept.KeptImages.{keeping}
+use Rattle.mg_image_overlays.specs.kept.StartLaws.{kept_by_itself}
 use Rattle.mg_overlays.specs.Overlays.{IsCleanAsDisk, left_by}
 use Rattle.mg_overlays.specs.StateLaws.{every_at_start}
 use Rattle.mg_lasting.specs.Lasting.{Lasts}

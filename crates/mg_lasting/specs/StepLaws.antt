@@ -19,11 +19,11 @@ use Rattle.mg_model.specs.DeedLaws.{deeds_after, deeds_after_entry}
 use Rattle.mg_model.specs.NumberLaws.{undrawn_has_no_deeds, undrawn_is_dead}
 use Rattle.mg_image.specs.Form.{Form}
 use Rattle.mg_image.specs.Inventory.{next_of, state_at}
-use Rattle.mg_image_overlays.specs.Begins.{markers_are}
-use Rattle.mg_image_overlays.specs.CommitLaws.{longer_kept}
-use Rattle.mg_image_overlays.specs.EndLaws.{begin_every, rollback_every}
-use Rattle.mg_image_overlays.specs.HoldLaws.{AreBits}
-use Rattle.mg_image_overlays.specs.KeptImages.{IsKept, keeping}
+use Rattle.mg_image_overlays.specs.transactions.Begins.{markers_are}
+use Rattle.mg_image_overlays.specs.transactions.CommitLaws.{longer_kept}
+use Rattle.mg_image_overlays.specs.transactions.EndLaws.{begin_every, rollback_every}
+use Rattle.mg_image_overlays.specs.kept.HoldLaws.{AreBits}
+use Rattle.mg_image_overlays.specs.kept.KeptImages.{IsKept, keeping}
 use Rattle.mg_overlays.specs.BatchLaws.{writes_keep}
 use Rattle.mg_overlays.specs.Overlays.{ChangesCache, EveryOverlay, OthersStay, before, left_by, left_state, nobody}
 use Rattle.mg_lasting.specs.Bits.{IsSettled, bits_behind, settled_drawn}

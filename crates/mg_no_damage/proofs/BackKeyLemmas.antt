@@ -15,21 +15,21 @@ use Rattle.mg_base.specs.declared.transaction.TxState.{TxState}
 use Rattle.mg_base.specs.declared.transaction.TxState.TheVariants.{Active, Committed, Dead, Limbo}
 use Rattle.mg_chain.specs.Chains.{newest_link}
 use Rattle.mg_chain.specs.Refusals.{RefusesChain}
-use Rattle.mg_engine_changes.specs.Found.{HasNewest}
-use Rattle.mg_engine_changes.specs.FoundLaws.{changes_are_there}
-use Rattle.mg_engine_changes.specs.Takings.{KnowsCache}
-use Rattle.mg_engine_changes.specs.TakingSteps.{StandsMidway}
-use Rattle.mg_engine_changes.specs.Written.{KeptTablesAreNamed, KeptTablesStand}
-use Rattle.mg_engine_changes.specs.WrittenLaws.{one_in}
+use Rattle.mg_engine_changes.specs.keys.Found.{HasNewest}
+use Rattle.mg_engine_changes.specs.keys.FoundLaws.{changes_are_there}
+use Rattle.mg_engine_changes.specs.keys.Takings.{KnowsCache}
+use Rattle.mg_engine_changes.specs.keys.TakingSteps.{StandsMidway}
+use Rattle.mg_engine_changes.specs.keys.Written.{KeptTablesAreNamed, KeptTablesStand}
+use Rattle.mg_engine_changes.specs.keys.WrittenLaws.{one_in}
 use Rattle.mg_engine_meaning.specs.Formers.{IsOfKind, MayReturn}
 use Rattle.mg_engine_meaning.specs.Standings.{KeepsWritten, written_kept}
-use Rattle.mg_engine_steps.specs.BasedLaws.{tests_all}
-use Rattle.mg_engine_steps.specs.Known.{IsShown}
-use Rattle.mg_engine_steps.specs.OtherIndexes.{as_other, speaker_on}
-use Rattle.mg_engine_steps.specs.Standing.{FindsTables, Remembers, ShowsHistory, Standing}
-use Rattle.mg_engine_steps.specs.TablePages.{data_there, table_there}
-use Rattle.mg_engine_steps.specs.Versions.{SpeaksFor, told_version}
-use Rattle.mg_engine_steps.specs.OwnChains.{own_told}
+use Rattle.mg_engine_steps.specs.standing.BasedLaws.{tests_all}
+use Rattle.mg_engine_steps.specs.standing.Known.{IsShown}
+use Rattle.mg_engine_steps.specs.tables_back.OtherIndexes.{as_other, speaker_on}
+use Rattle.mg_engine_steps.specs.standing.Standing.{FindsTables, Remembers, ShowsHistory, Standing}
+use Rattle.mg_engine_steps.specs.tables.TablePages.{data_there, table_there}
+use Rattle.mg_engine_steps.specs.standing.Versions.{SpeaksFor, told_version}
+use Rattle.mg_engine_steps.specs.standing.OwnChains.{own_told}
 use Rattle.mg_generations.specs.Generations.{is_newest_by}
 use Rattle.mg_generations.specs.Kept.{IsErasedForAll, StandFor}
 use Rattle.mg_image.specs.Form.{Pages, Row, packed_form}
@@ -39,7 +39,7 @@ use Rattle.mg_image.specs.Records.{Chain, Reading, cells_of, record_key, writer}
 use Rattle.mg_image.specs.Sound.{IsSoundBy, facts_by}
 use Rattle.mg_image.specs.Tables.{stands_of, table_at}
 use Rattle.mg_image.specs.declared.entry.Entry.{Entry as Read}
-use Rattle.mg_image_overlays.specs.Fronts.{is_dead}
+use Rattle.mg_image_overlays.specs.records.Fronts.{is_dead}
 use Rattle.mg_model.specs.Changes.{has_change}
 use Rattle.mg_model.specs.History.{Entries, Entry}
 use Rattle.mg_model.specs.Machine.{own, state_of}
@@ -47,7 +47,7 @@ use Rattle.mg_model.specs.Openings.{everyone}
 use Rattle.mg_model.specs.declared.change.Change.{Change}
 use Rattle.mg_model.specs.declared.opening.Opening.{Opening}
 use Rattle.mg_model.specs.declared.table.Table.{Table}
-use Rattle.mg_image_overlays.specs.TableOwners.{IsOneOf}
+use Rattle.mg_image_overlays.specs.tables.TableOwners.{IsOneOf}
 use Rattle.mg_no_damage.proofs.FitLemmas.{keys_fit, rows_fit, stored_short, write_keys_short}
 use Rattle.mg_no_damage.proofs.KeyedLemmas.{tables_are_keyed}
 use Rattle.mg_no_damage.proofs.SilentLemmas.{others_silent}
@@ -83,11 +83,11 @@ use Rattle.mg_space.specs.ViewLaws.{tells_on}
 use Rattle.mg_space.specs.declared.fault.SpaceFault.{SpaceFault}
 use Rattle.mg_space.specs.declared.fault.SpaceFault.TheVariants as faults
 use Rattle.mg_space.specs.declared.links.FireLinks.{FireLinks}
-use Rattle.mg_image_overlays.specs.OneTable.{one_table, table_at_stands}
+use Rattle.mg_image_overlays.specs.tables.OneTable.{one_table, table_at_stands}
 use Rattle.mg_taking_back.specs.Formers.{MayComeBack}
-use Rattle.mg_engine_changes.specs.BackEntries.{HasEnteredBack, KeysEnterMidway}
-use Rattle.mg_engine_changes.specs.EnteredAllLaws.{no_more}
-use Rattle.mg_engine_steps.specs.Midway.{GoesBack}
+use Rattle.mg_engine_changes.specs.entries.BackEntries.{HasEnteredBack, KeysEnterMidway}
+use Rattle.mg_engine_changes.specs.entries.EnteredAllLaws.{no_more}
+use Rattle.mg_engine_steps.specs.backs.Midway.{GoesBack}
 use Rattle.mg_entries.specs.Entries.{FailsAll, FailsEntry, LaysAll, no_index}
 use Rattle.mg_entry_ties.specs.IndexPlaces.{HasRoot}
 use Rattle.mg_entry_ties.specs.Laws.{InsertionsAreLawful, InsertionsMeetNone}

@@ -1,24 +1,24 @@
 -- A transaction is taken back to a point: the engine finds no page damaged, where no table goes.
 use Rattle.std.proofs.Common.{◌≡◌, ◌++◌, ap, refl, sym, subst, ◌∙◌, ℕ, Bool, true, false, List, [], ◌∷◌, Ok, Err}
 use Rattle.std.specs.Prelude.{map}
-use Rattle.mg_engine_changes.specs.BackEntries.{KeysEnterMidway}
+use Rattle.mg_engine_changes.specs.entries.BackEntries.{KeysEnterMidway}
 use Rattle.mg_no_damage.specs.BackTrees.{StandAll}
 use Rattle.mg_no_damage.specs.EntryBacks.{AllStandBack}
 use Rattle.mg_base.specs.Disk.{Meaning}
 use Rattle.mg_base.specs.declared.numbers.TxNo.{TxNo}
 use Rattle.mg_core.specs.Cores.{IsCore}
 use Rattle.mg_core.specs.declared.parts.Core.{Core}
-use Rattle.mg_engine_changes.specs.CatalogLaws.{leaves_the_catalog}
-use Rattle.mg_engine_changes.specs.EngineBacks.{IsBackEntry}
-use Rattle.mg_engine_changes.specs.Events.{back_entry}
-use Rattle.mg_engine_changes.specs.Given.{AreGiven}
-use Rattle.mg_engine_changes.specs.Known.{KnownOfBacks}
-use Rattle.mg_engine_changes.specs.Outcomes.{back_event}
-use Rattle.mg_engine_changes.specs.StopsAfter.{begun_as}
-use Rattle.mg_engine_changes.specs.ToTake.{since_point}
+use Rattle.mg_engine_changes.specs.tables_back.CatalogLaws.{leaves_the_catalog}
+use Rattle.mg_engine_changes.specs.backs.EngineBacks.{IsBackEntry}
+use Rattle.mg_engine_changes.specs.backs.Events.{back_entry}
+use Rattle.mg_engine_changes.specs.backs.Given.{AreGiven}
+use Rattle.mg_engine_changes.specs.backs.Known.{KnownOfBacks}
+use Rattle.mg_engine_changes.specs.backs.Outcomes.{back_event}
+use Rattle.mg_engine_changes.specs.given_up.StopsAfter.{begun_as}
+use Rattle.mg_engine_changes.specs.backs.ToTake.{since_point}
 use Rattle.mg_engine_meaning.specs.Standings.{ShowsIt, StandsFor, standing_of, undo_kept}
 use Rattle.mg_engine_meaning.specs.StepLaws.{shows_of}
-use Rattle.mg_engine_steps.specs.Standing.{Standing}
+use Rattle.mg_engine_steps.specs.standing.Standing.{Standing}
 use Rattle.mg_model.specs.History.{Entries, Entry, entry}
 use Rattle.mg_model.specs.Machine.{deeds_by, own, steps}
 use Rattle.mg_model.specs.Openings.{everyone}

@@ -8,9 +8,9 @@ use Rattle.mg_base.specs.declared.numbers.RecId.{RecId}
 use Rattle.mg_base.specs.declared.transaction.TxState.{TxState}
 use Rattle.mg_chain.specs.Chains.{newest_link}
 use Rattle.mg_chain.specs.Views.{first_entry}
-use Rattle.mg_engine_steps.specs.Listed.{page_listed}
-use Rattle.mg_engine_steps.specs.TablePages.{table_there}
-use Rattle.mg_engine_steps.specs.SameRecords.{catalog_stands}
+use Rattle.mg_engine_steps.specs.standing.Listed.{page_listed}
+use Rattle.mg_engine_steps.specs.tables.TablePages.{table_there}
+use Rattle.mg_engine_steps.specs.tables.SameRecords.{catalog_stands}
 use Rattle.mg_heap.specs.Table.{IsTable}
 use Rattle.mg_image.specs.Catalog.{catalog_table}
 use Rattle.mg_image.specs.Form.{Pages, packed_form}
@@ -42,9 +42,9 @@ use Rattle.mg_space.specs.View.{KeepsStore, Tells}
 use Rattle.mg_space.specs.ViewLaws.{tells_on}
 use Rattle.mg_space.specs.declared.fault.SpaceFault.TheVariants as faults
 use Rattle.mg_space.specs.declared.links.FireLinks.{FireLinks}
-use Rattle.mg_image_overlays.specs.Growing.{IsTableOf}
-use Rattle.mg_image_overlays.specs.OneChain.{link_once}
-use Rattle.mg_image_overlays.specs.OneTable.{its_data}
+use Rattle.mg_image_overlays.specs.tables.Growing.{IsTableOf}
+use Rattle.mg_image_overlays.specs.tables.OneChain.{link_once}
+use Rattle.mg_image_overlays.specs.tables.OneTable.{its_data}
 use Rattle.mg_table_unmaking.specs.Rows.{FailsRowOut, IsAlone, IsAloneAt, RefusesAloneAt, RefusesRow, TakesRow, alone_nobody, alone_other, alone_unread, alone_unspoken, row_not_found, row_not_out}
 use Rattle.mg_value.specs.declared.value.Value.{Value}
 use Rattle.mg_no_damage.specs.BackRows.{RowIsThere, RowsMeetNoDamage}

@@ -2,7 +2,7 @@
 use Rattle.std.proofs.Common.{◌≡◌, ◌≢◌, ◌==◌, ◌++◌, ap, refl, sym, subst, ◌∙◌, ℕ, Bool, true, false, List, [], ◌∷◌, Some, Ok, Err}
 use Rattle.std.proofs.lemmas.Bool.{ne_eqb}
 use Rattle.std.specs.Prelude.{if◌then◌else◌, map}
-use Rattle.mg_engine_changes.specs.BackEntries.{KeysEnterMidway}
+use Rattle.mg_engine_changes.specs.entries.BackEntries.{KeysEnterMidway}
 use Rattle.mg_no_damage.specs.BackTrees.{StandAll}
 use Rattle.mg_no_damage.specs.EntryBacks.{OthersStandBack}
 use Rattle.mg_model.specs.declared.refusal.Refusal.TheVariants as refusals
@@ -13,40 +13,40 @@ use Rattle.mg_base.specs.declared.numbers.TxNo.{TxNo}
 use Rattle.mg_core.specs.Cores.{IsCatalog, IsCore}
 use Rattle.mg_core.specs.Refusing.{CountsFault}
 use Rattle.mg_core.specs.declared.parts.Core.{Core}
-use Rattle.mg_engine_changes.specs.BackBegun.{goes, knows}
-use Rattle.mg_engine_changes.specs.Events.{may_go, takes_back}
-use Rattle.mg_engine_changes.specs.CoreRows.{HasTakenRows}
-use Rattle.mg_engine_changes.specs.Found.{HasNewest}
-use Rattle.mg_engine_changes.specs.FoundLaws.{changes_are_there}
-use Rattle.mg_engine_changes.specs.Keys.{HasTakenKeys, IsOfTable}
-use Rattle.mg_engine_changes.specs.Known.{KnownOfBacks}
-use Rattle.mg_engine_changes.specs.Memory.{MayGoTo}
-use Rattle.mg_engine_changes.specs.Outcomes.{back_event}
-use Rattle.mg_engine_changes.specs.OverRows.{StopsAmong, gone_at, has_taken, lost_at, rows_at, stops_among, stops_parts}
-use Rattle.mg_engine_changes.specs.RowsLost.{HasLost}
-use Rattle.mg_engine_steps.specs.TablesBack.{RowsGoOn}
-use Rattle.mg_engine_steps.specs.DeadMidway.{dead_pool, every_from}
-use Rattle.mg_image_overlays.specs.KeptImages.{IsKept}
+use Rattle.mg_engine_changes.specs.backs.BackBegun.{goes, knows}
+use Rattle.mg_engine_changes.specs.backs.Events.{may_go, takes_back}
+use Rattle.mg_engine_changes.specs.tables_back.CoreRows.{HasTakenRows}
+use Rattle.mg_engine_changes.specs.keys.Found.{HasNewest}
+use Rattle.mg_engine_changes.specs.keys.FoundLaws.{changes_are_there}
+use Rattle.mg_engine_changes.specs.keys.Keys.{HasTakenKeys, IsOfTable}
+use Rattle.mg_engine_changes.specs.backs.Known.{KnownOfBacks}
+use Rattle.mg_engine_changes.specs.backs.Memory.{MayGoTo}
+use Rattle.mg_engine_changes.specs.backs.Outcomes.{back_event}
+use Rattle.mg_engine_changes.specs.tables_back.OverRows.{StopsAmong, gone_at, has_taken, lost_at, rows_at, stops_among, stops_parts}
+use Rattle.mg_engine_changes.specs.tables_back.RowsLost.{HasLost}
+use Rattle.mg_engine_steps.specs.tables_back.TablesBack.{RowsGoOn}
+use Rattle.mg_engine_steps.specs.backs.DeadMidway.{dead_pool, every_from}
+use Rattle.mg_image_overlays.specs.kept.KeptImages.{IsKept}
 use Rattle.mg_overlays.specs.Overlays.{left_state, nobody}
-use Rattle.mg_engine_changes.specs.OverGiven.{each_of_table, each_own, keys_are, others_are}
-use Rattle.mg_engine_changes.specs.RowsGiven.{GivenApart, of_catalog, of_others}
-use Rattle.mg_engine_changes.specs.StopsAfter.{begun_as}
-use Rattle.mg_engine_changes.specs.ToTake.{AreKeysOf, EachChange, since_point}
+use Rattle.mg_engine_changes.specs.tables_back.OverGiven.{each_of_table, each_own, keys_are, others_are}
+use Rattle.mg_engine_changes.specs.tables_back.RowsGiven.{GivenApart, of_catalog, of_others}
+use Rattle.mg_engine_changes.specs.given_up.StopsAfter.{begun_as}
+use Rattle.mg_engine_changes.specs.backs.ToTake.{AreKeysOf, EachChange, since_point}
 use Rattle.mg_engine_meaning.specs.Standings.{ShowsIt, StandsFor, asked_in, sessions_in, standing_of, undo_kept}
 use Rattle.mg_engine_meaning.specs.StepLaws.{shows_of}
-use Rattle.mg_engine_steps.specs.Standing.{Standing}
-use Rattle.mg_engine_steps.specs.Again.{again, rolling}
-use Rattle.mg_engine_steps.specs.CatalogPages.{ChangesCatalogPages}
-use Rattle.mg_engine_steps.specs.GoesOnLaws.{pool_is_kept}
-use Rattle.mg_engine_steps.specs.Outs.{ReadsWithout, RowsGone, is_among}
-use Rattle.mg_engine_steps.specs.SameRecords.{catalog_stands}
+use Rattle.mg_engine_steps.specs.standing.Standing.{Standing}
+use Rattle.mg_engine_steps.specs.backs.Again.{again, rolling}
+use Rattle.mg_engine_steps.specs.tables_back.CatalogPages.{ChangesCatalogPages}
+use Rattle.mg_engine_steps.specs.writes.GoesOnLaws.{pool_is_kept}
+use Rattle.mg_engine_steps.specs.tables_back.Outs.{ReadsWithout, RowsGone, is_among}
+use Rattle.mg_engine_steps.specs.tables.SameRecords.{catalog_stands}
 use Rattle.mg_image.specs.Catalog.{catalog_table}
 use Rattle.mg_image.specs.Form.{packed_form}
 use Rattle.mg_image.specs.Histories.{row_change}
 use Rattle.mg_image.specs.Inventory.{header_of}
 use Rattle.mg_image.specs.Sound.{IsSoundBy}
 use Rattle.mg_image.specs.Tables.{Layout}
-use Rattle.mg_image_overlays.specs.Growing.{IsTableOf}
+use Rattle.mg_image_overlays.specs.tables.Growing.{IsTableOf}
 use Rattle.mg_model.specs.Catalog.{catalog_name}
 use Rattle.mg_model.specs.Changes.{has_change}
 use Rattle.mg_model.specs.History.{Entries, Entry, entry}

@@ -5,8 +5,8 @@ use Rattle.mg_base.specs.Image.{Image}
 use Rattle.mg_base.specs.declared.numbers.TxNo.{TxNo}
 use Rattle.mg_core.specs.Cores.{Continues, IsCore}
 use Rattle.mg_core.specs.declared.parts.Core.{Core}
-use Rattle.mg_engine_changes.specs.MakingSteps.{MayHave}
-use Rattle.mg_engine_changes.specs.Notes.{HasRead}
+use Rattle.mg_engine_changes.specs.tables.MakingSteps.{MayHave}
+use Rattle.mg_engine_changes.specs.memory.Notes.{HasRead}
 use Rattle.mg_engine_meaning.specs.Meaning.{Places}
 use Rattle.mg_engine_meaning.specs.Standings.{StandsFor}
 use Rattle.mg_engine_meaning.specs.StepLaws.{shows_of}

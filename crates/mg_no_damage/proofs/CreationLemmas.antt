@@ -19,28 +19,28 @@ use Rattle.mg_core.specs.Writing.{HasBegun, IsOfKey, KnowsKey, ReadsRow, WhyOfKe
 use Rattle.mg_core.specs.declared.parts.Core.{Core}
 use Rattle.mg_no_damage.specs.CoreReads.{RecordsArePassed, RowsAreFound, ShowsTable}
 use Rattle.mg_engine_meaning.specs.KeepLaws.{catalog_shown}
-use Rattle.mg_engine_changes.specs.MakingSteps.{MayHave}
-use Rattle.mg_engine_changes.specs.MakingSteps as steps
-use Rattle.mg_engine_changes.specs.Notes.{HasRead}
-use Rattle.mg_engine_changes.specs.RefusalLaws.{begun_read}
-use Rattle.mg_engine_changes.specs.RowsKnown.{rows_may}
-use Rattle.mg_engine_changes.specs.StopLaws.{reads_on, told_before}
+use Rattle.mg_engine_changes.specs.tables.MakingSteps.{MayHave}
+use Rattle.mg_engine_changes.specs.tables.MakingSteps as steps
+use Rattle.mg_engine_changes.specs.memory.Notes.{HasRead}
+use Rattle.mg_engine_changes.specs.rows.RefusalLaws.{begun_read}
+use Rattle.mg_engine_changes.specs.tables.RowsKnown.{rows_may}
+use Rattle.mg_engine_changes.specs.rows.StopLaws.{reads_on, told_before}
 use Rattle.mg_engine_meaning.specs.Meaning.{Places}
 use Rattle.mg_engine_meaning.specs.Standings.{ShowsIt, StandsFor, asked_in, sessions_in, standing_of}
 use Rattle.mg_engine_meaning.specs.StepLaws.{shows_of}
 use Rattle.mg_no_damage.specs.CountLaws.{count, ended, refused}
 use Rattle.mg_no_damage.specs.ShownLaws.{catalog_there, shown_table, table_on}
 use Rattle.mg_no_damage.specs.StageLaws.{none_passed, own_there, read_stands, speaks_on, stops_stand, unread_stands}
-use Rattle.mg_engine_steps.specs.AnswersLaws.{ObstaclesAtKeys, RowsAtKeys, SpeakersAreTold, TellsSpeaker}
-use Rattle.mg_engine_steps.specs.GoesOnLaws.{pool_is_kept}
-use Rattle.mg_engine_steps.specs.Known.{IsSilent, KnowsPages, catalog_is_shown}
-use Rattle.mg_engine_steps.specs.Standing.{Standing}
-use Rattle.mg_engine_steps.specs.Caches.{kept_from}
+use Rattle.mg_engine_steps.specs.reads.AnswersLaws.{ObstaclesAtKeys, RowsAtKeys, SpeakersAreTold, TellsSpeaker}
+use Rattle.mg_engine_steps.specs.writes.GoesOnLaws.{pool_is_kept}
+use Rattle.mg_engine_steps.specs.standing.Known.{IsSilent, KnowsPages, catalog_is_shown}
+use Rattle.mg_engine_steps.specs.standing.Standing.{Standing}
+use Rattle.mg_engine_steps.specs.writes.Caches.{kept_from}
 use Rattle.mg_grown_catalogs.specs.Grown.{CommittedRowsStay, OwnRowsAreNew}
 use Rattle.mg_image.specs.Form.{Pages, Row, packed_coding, packed_form}
 use Rattle.mg_image.specs.ReadingLaws.{RowsAreOne}
 use Rattle.mg_image.specs.Sound.{IsSoundBy}
-use Rattle.mg_image_overlays.specs.KeptImages.{IsKept}
+use Rattle.mg_image_overlays.specs.kept.KeptImages.{IsKept}
 use Rattle.mg_no_damage.proofs.MakingKeyLemmas.{SpeaksWith, column_refuted, own_refuted, speaks_with}
 use Rattle.mg_no_damage.specs.Creations.{CreationsMeetNone}
 use Rattle.mg_model.specs.Catalog.{catalog_name, catalog_shape, column_key, key_of, table_key}

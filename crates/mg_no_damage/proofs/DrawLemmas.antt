@@ -10,7 +10,7 @@ use Rattle.mg_header.specs.declared.header.HeadFault.{HeadFault}
 use Rattle.mg_header.specs.declared.header.Header.{Header}
 use Rattle.mg_image.specs.Inventory.{header_of}
 use Rattle.mg_image.specs.Sound.{HasHeader}
-use Rattle.mg_image_overlays.specs.DataPages.{byte_blank, kind_of}
+use Rattle.mg_image_overlays.specs.pages.DataPages.{byte_blank, kind_of}
 use Rattle.mg_no_damage.specs.Inventory.{PagesAreTaken}
 use Rattle.mg_pool.specs.Dirty.{DirtyPages, content_of}
 use Rattle.mg_pool.specs.Pool.{shown}

@@ -25,7 +25,7 @@ use Rattle.mg_image.specs.Inventory.{inventory_page}
 use Rattle.mg_image.specs.Records.{newest_of, slot_cell}
 use Rattle.mg_image.specs.Sound.{IsCellOf, IsTablePointer}
 use Rattle.mg_image.specs.Tables.{EachFrom, Has, IsOnce, Stand}
-use Rattle.mg_image_overlays.specs.DataPages.{kind_of}
+use Rattle.mg_image_overlays.specs.pages.DataPages.{kind_of}
 use Rattle.mg_model.specs.Catalog.{catalog_shape}
 use Rattle.mg_model.specs.declared.table.Table.{Table}
 use Rattle.mg_pool.specs.Batch.{Changed, is_in}

@@ -3,7 +3,7 @@ use Rattle.std.proofs.Common.{◌≡◌, ◌⊎◌, ◌+◌, ◌/◌, ◌≤◌,
 use Rattle.mg_entries.specs.Entries.{KeyFits, KeysFit}
 use Rattle.mg_image.specs.Catalog.{FitsPages, longest_key}
 use Rattle.mg_image.specs.RecordRules.{columns_for}
-use Rattle.mg_image_overlays.specs.TableOwners.{IsOneOf}
+use Rattle.mg_image_overlays.specs.tables.TableOwners.{IsOneOf}
 use Rattle.mg_model.specs.CatalogRules.{EachIndex, EachTable}
 use Rattle.mg_model.specs.declared.table.Index.{Index}
 use Rattle.mg_model.specs.declared.table.Table.{Table}

@@ -10,7 +10,7 @@ use Rattle.mg_heap.specs.Room.{looked_at}
 use Rattle.mg_image.specs.Form.{Pages}
 use Rattle.mg_image.specs.Sound.{IsTableData}
 use Rattle.mg_image.specs.Tables.{EachFrom, Has, IsOnce, Stand}
-use Rattle.mg_image_overlays.specs.DataPages.{all_passes, kind_of}
+use Rattle.mg_image_overlays.specs.pages.DataPages.{all_passes, kind_of}
 use Rattle.mg_slots.specs.declared.page.TheConstants.{DATA_KIND}
 use Rattle.mg_no_damage.specs.WriteStanding.{IsStanding}
 

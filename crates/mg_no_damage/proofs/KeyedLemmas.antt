@@ -8,12 +8,12 @@ use Rattle.mg_catalog.specs.TableLaws.{some_shape}
 use Rattle.mg_image.specs.RecordRules.{allowing_null, columns_for, erased_from}
 use Rattle.mg_image.specs.Tables.{Stand}
 use Rattle.mg_image_openings.specs.Fits.{LaterAreNull, first_fits, later_null}
-use Rattle.mg_image_overlays.specs.TableOwners.{IsOneOf, one_each}
+use Rattle.mg_image_overlays.specs.tables.TableOwners.{IsOneOf, one_each}
 use Rattle.mg_model.specs.Catalog.{CatalogRows, catalog_shape, column_key, columns_said, count_said, is_key_row, key_said, said_b, said_c, says_key, shape_said, with_column}
 use Rattle.mg_model.specs.CatalogRules.{IsCatalog, IsKeyColumn, IsTable, IsTableRow}
 use Rattle.mg_model.specs.Changes.{Cells}
 use Rattle.mg_model.specs.declared.table.Table.{Table}
-use Rattle.mg_image_overlays.specs.OneTable.{one_standing}
+use Rattle.mg_image_overlays.specs.tables.OneTable.{one_standing}
 use Rattle.mg_rowcode.specs.Faults.{DecodesTo}
 use Rattle.mg_value.specs.Rows.{RowFits, columns_of}
 use Rattle.mg_value.specs.declared.shape.Column.{Column}

@@ -15,19 +15,19 @@ use Rattle.mg_core.specs.Obstacles.{IsOfRecord}
 use Rattle.mg_core.specs.Putting.{StandsBefore}
 use Rattle.mg_core.specs.Writing.{HasBegun, IsFree, IsOfKey, KnowsKey}
 use Rattle.mg_core.specs.declared.parts.Core.{Core}
-use Rattle.mg_engine_changes.specs.Enters.{there}
-use Rattle.mg_engine_changes.specs.Laid.{HasNoted}
-use Rattle.mg_engine_changes.specs.Notes.{HasRead}
-use Rattle.mg_engine_changes.specs.RefusalLaws.{begun_read, found_read, free_answer, free_read, passed_read}
-use Rattle.mg_engine_changes.specs.Refusals.{IsReady}
-use Rattle.mg_engine_changes.specs.StopLaws.{reads_on, told_before}
+use Rattle.mg_engine_changes.specs.rows.Enters.{there}
+use Rattle.mg_engine_changes.specs.rows.Laid.{HasNoted}
+use Rattle.mg_engine_changes.specs.memory.Notes.{HasRead}
+use Rattle.mg_engine_changes.specs.rows.RefusalLaws.{begun_read, found_read, free_answer, free_read, passed_read}
+use Rattle.mg_engine_changes.specs.rows.Refusals.{IsReady}
+use Rattle.mg_engine_changes.specs.rows.StopLaws.{reads_on, told_before}
 use Rattle.mg_engine_meaning.specs.Meaning.{Places}
 use Rattle.mg_engine_meaning.specs.Standings.{ShowsIt, StandsFor, asked_in, sessions_in, standing_of}
 use Rattle.mg_no_damage.proofs.FitLemmas.{keys_fit, rows_fit, stored_short, write_keys_short}
 use Rattle.mg_no_damage.proofs.SpokenLemmas.{IsOwn, goes_to, newest_found, record_of, replaced_own, same_number, spoken_record}
 use Rattle.mg_no_damage.proofs.WriteParts.{WriteParts}
 use Rattle.mg_no_damage.specs.StageLaws.{none_passed}
-use Rattle.mg_engine_steps.specs.Known.{IsShown}
+use Rattle.mg_engine_steps.specs.standing.Known.{IsShown}
 use Rattle.mg_heap.specs.Apart.{HasPlace}
 use Rattle.mg_model.specs.Answers.{answer}
 use Rattle.mg_model.specs.History.{Entries}
@@ -62,16 +62,16 @@ use Rattle.mg_txlist.specs.TxList.{said}
 use Rattle.mg_version.specs.declared.cell.Version.{Version}
 use Rattle.mg_waits.specs.Waits.{edges_in}
 use Rattle.mg_works.specs.Works.{given_to, work_of}
-use Rattle.mg_engine_changes.specs.EnteredAllLaws.{AllEntered, RowEntered}
-use Rattle.mg_engine_changes.specs.EntryOverLaws.{StandsOver}
-use Rattle.mg_engine_changes.specs.Starts.{StandsCleared, StandsPlaced, StartsOver}
+use Rattle.mg_engine_changes.specs.entries.EnteredAllLaws.{AllEntered, RowEntered}
+use Rattle.mg_engine_changes.specs.entries.EntryOverLaws.{StandsOver}
+use Rattle.mg_engine_changes.specs.rows.Starts.{StandsCleared, StandsPlaced, StartsOver}
 use Rattle.mg_entries.specs.Entries.{FailsAll}
 use Rattle.mg_entry_ties.specs.IndexPlaces.{HasRoot}
 use Rattle.mg_image.specs.Form.{Pages, Row}
 use Rattle.mg_image.specs.Indexes.{index_entry}
 use Rattle.mg_image.specs.Records.{Reading}
 use Rattle.mg_image.specs.Tables.{stands_of, table_at}
-use Rattle.mg_image_overlays.specs.OneTable.{table_at_stands}
+use Rattle.mg_image_overlays.specs.tables.OneTable.{table_at_stands}
 use Rattle.mg_model.specs.declared.table.Index.{Index}
 use Rattle.mg_no_damage.specs.EntryCalls.{entry_meets_none, root_there}
 use Rattle.mg_no_damage.specs.EntryTrees.{no_places, trees_of_standing}

@@ -7,7 +7,7 @@ use Rattle.mg_image.specs.Form.{Row}
 use Rattle.mg_image.specs.RecordRules.{Each, EachBack}
 use Rattle.mg_image.specs.Records.{shown, writer}
 use Rattle.mg_image.specs.declared.entry.Entry.{Entry}
-use Rattle.mg_image_overlays.specs.Fronts.{is_dead, living}
+use Rattle.mg_image_overlays.specs.records.Fronts.{is_dead, living}
 use Rattle.mg_seek.specs.Versions.{wants}
 use Rattle.mg_seek.specs.declared.whose.Wanted.TheVariants.{Living}
 use Rattle.mg_snap.specs.Live.{State}

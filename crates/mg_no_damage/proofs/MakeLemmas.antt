@@ -40,9 +40,9 @@ use Rattle.mg_space.specs.declared.links.FireLinks.{FireLinks}
 use Rattle.mg_table_batch.specs.Filling.{FillsTable, PutsTable, TakesFirst, rows_at}
 use Rattle.mg_table_batch.specs.Making.{FailsAtOnce, FailsGrowth, FailsTable, GrowsAsWanted, at_try, gets_one, has_enough, most_pages, no_page, not_at_once, wants_more}
 use Rattle.mg_table_batch.specs.Refusals.{RefusesTable, table_memory, table_page, table_rows}
-use Rattle.mg_image_overlays.specs.Growing.{IsTableOf}
-use Rattle.mg_image_overlays.specs.Knowing.{its_pages}
-use Rattle.mg_image_overlays.specs.OneTable.{its_data}
+use Rattle.mg_image_overlays.specs.tables.Growing.{IsTableOf}
+use Rattle.mg_image_overlays.specs.kept.Knowing.{its_pages}
+use Rattle.mg_image_overlays.specs.tables.OneTable.{its_data}
 use Rattle.mg_value.specs.declared.shape.Shape.{Shape}
 use Rattle.mg_no_damage.specs.NewTables.{EachRow, MayBePut, MayMake, TablesAreMade}
 use Rattle.mg_no_damage.proofs.CatalogRowLemmas.{IsShortRow, body_short, rows_short}

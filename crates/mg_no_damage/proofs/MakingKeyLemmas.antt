@@ -9,10 +9,10 @@ use Rattle.mg_base.specs.declared.transaction.TxState.{TxState}
 use Rattle.mg_base.specs.declared.transaction.TxState.TheVariants.{Active, Committed, Dead, Limbo}
 use Rattle.mg_catalog.specs.KeyLaws.{column_key_equal, index_not_column, table_not_column}
 use Rattle.mg_chain.specs.Views.{is_dead as dead_version}
-use Rattle.mg_engine_steps.specs.Known.{IsSilent, KnowsPages, bases_see_all, facts_shown, speaker_of}
-use Rattle.mg_engine_steps.specs.KeyAnswers.{has_speaker}
-use Rattle.mg_engine_steps.specs.Standing.{Standing}
-use Rattle.mg_engine_steps.specs.StandingLaws.{IsChainOf}
+use Rattle.mg_engine_steps.specs.standing.Known.{IsSilent, KnowsPages, bases_see_all, facts_shown, speaker_of}
+use Rattle.mg_engine_steps.specs.reads.KeyAnswers.{has_speaker}
+use Rattle.mg_engine_steps.specs.standing.Standing.{Standing}
+use Rattle.mg_engine_steps.specs.standing.StandingLaws.{IsChainOf}
 use Rattle.mg_generations.specs.Generations.{sees, shown_by}
 use Rattle.mg_generations.specs.Kept.{IsErasedForAll, StandFor}
 use Rattle.mg_generations.specs.KeptShowLaws.{chain_shows_view, chain_tells_obstacle}
@@ -23,7 +23,7 @@ use Rattle.mg_image.specs.Held.{Shows, told_row}
 use Rattle.mg_image.specs.RecordRules.{Facts, IsVersion, table_in}
 use Rattle.mg_image.specs.Records.{Reading, key_of, record_key, writer}
 use Rattle.mg_image.specs.declared.entry.Entry.{Entry}
-use Rattle.mg_image_overlays.specs.Fronts.{is_dead}
+use Rattle.mg_image_overlays.specs.records.Fronts.{is_dead}
 use Rattle.mg_model.specs.Answers.{can_hinder, is_active, is_committed, is_open, obstacle, told}
 use Rattle.mg_model.specs.Catalog.{catalog_name, column_key, table_key}
 use Rattle.mg_model.specs.CatalogRules.{IsCatalogRow}
@@ -39,8 +39,8 @@ use Rattle.mg_seek.specs.Histories.{told_all, told_given, told_versions}
 use Rattle.mg_seek.specs.Readings.{SpeakIn, SpeakersOfReadings}
 use Rattle.mg_seek.specs.Speaking.{IsSpeaker, is_erased_for_all}
 use Rattle.mg_snap.specs.Live.{all_see}
-use Rattle.mg_image_overlays.specs.Growing.{IsTableOf}
-use Rattle.mg_image_overlays.specs.OneTable.{stands_in}
+use Rattle.mg_image_overlays.specs.tables.Growing.{IsTableOf}
+use Rattle.mg_image_overlays.specs.tables.OneTable.{stands_in}
 use Rattle.mg_value.specs.declared.value.Value.{Value}
 use Rattle.mg_no_damage.proofs.GrownLemmas.{gives_row}
 use Rattle.mg_no_damage.proofs.LivingLemmas.{CountsFirst, GivesFirst, first_counts, first_has, first_shown, shows_first}

@@ -26,21 +26,21 @@ use Rattle.mg_image.specs.Sound.{IsSoundBy, facts_by}
 use Rattle.mg_image.specs.StepLaws.{put_reading}
 use Rattle.mg_image.specs.Tables.{Layout, stands_of, table_at}
 use Rattle.mg_image.specs.declared.entry.Entry.{Entry}
-use Rattle.mg_image_overlays.specs.DataPages.{all_passes, kind_of}
-use Rattle.mg_image_overlays.specs.DataSound.{data_sound, facts_same}
-use Rattle.mg_image_overlays.specs.Kinds.{HasNoSequences}
-use Rattle.mg_image_overlays.specs.Push.{free_unread}
-use Rattle.mg_image_overlays.specs.QuietVersions.{AreQuiet, indexed_still, owns_still, shows_with}
-use Rattle.mg_image_overlays.specs.Rest.{LeavesRest}
-use Rattle.mg_image_overlays.specs.Trees.{data_leaves, trees_stay}
+use Rattle.mg_image_overlays.specs.pages.DataPages.{all_passes, kind_of}
+use Rattle.mg_image_overlays.specs.pages.DataSound.{data_sound, facts_same}
+use Rattle.mg_image_overlays.specs.pages.Kinds.{HasNoSequences}
+use Rattle.mg_image_overlays.specs.records.Push.{free_unread}
+use Rattle.mg_image_overlays.specs.records.QuietVersions.{AreQuiet, indexed_still, owns_still, shows_with}
+use Rattle.mg_image_overlays.specs.kept.Rest.{LeavesRest}
+use Rattle.mg_image_overlays.specs.pages.Trees.{data_leaves, trees_stay}
 use Rattle.mg_model.specs.declared.table.Table.{Table}
-use Rattle.mg_image_overlays.specs.TakePart.{OccupiesPage}
+use Rattle.mg_image_overlays.specs.pages.TakePart.{OccupiesPage}
 use Rattle.mg_pip.specs.PipPage.{pip_checks}
 use Rattle.mg_pointer.specs.PointerPage.{new_pointer_page, pointer_checks}
 use Rattle.mg_pointer.specs.PointerPageLaws.{length-new_pointer_page, new_page_passes}
 use Rattle.mg_pool.specs.Batch.{Changed, content_in, lists}
 use Rattle.mg_pool.specs.declared.pool.Pool.{Pool}
-use Rattle.mg_image_overlays.specs.AddPart.{AddsOver, FindsPlace, add_living, add_sound}
+use Rattle.mg_image_overlays.specs.records.AddPart.{AddsOver, FindsPlace, add_living, add_sound}
 use Rattle.mg_slots.specs.DataPage.{cell_of}
 use Rattle.mg_slots.specs.RoomLaws.{least_free_is_free}
 use Rattle.mg_space.specs.Taking.{IsGeometry, region_of}
@@ -50,11 +50,11 @@ use Rattle.mg_space.specs.ViewLaws.{viewed_else, viewed_here}
 use Rattle.mg_space.specs.declared.links.FireLinks.{FireLinks}
 use Rattle.mg_ties.specs.Occupied.{taken_are_occupied}
 use Rattle.mg_table_batch.specs.Filling.{PutsRow, TakesFirst}
-use Rattle.mg_image_overlays.specs.Growing.{IsTableOf, MayBeWritten}
-use Rattle.mg_image_overlays.specs.GrowingLaws.{taken_sound}
-use Rattle.mg_image_overlays.specs.Knowing.{lawful_there, put_still}
-use Rattle.mg_image_overlays.specs.OneLayout.{sound_once}
-use Rattle.mg_image_overlays.specs.OneTable.{its_data}
+use Rattle.mg_image_overlays.specs.tables.Growing.{IsTableOf, MayBeWritten}
+use Rattle.mg_image_overlays.specs.tables.GrowingLaws.{taken_sound}
+use Rattle.mg_image_overlays.specs.kept.Knowing.{lawful_there, put_still}
+use Rattle.mg_image_overlays.specs.tables.OneLayout.{sound_once}
+use Rattle.mg_image_overlays.specs.tables.OneTable.{its_data}
 use Rattle.mg_value.specs.declared.value.Value.{Value}
 use Rattle.mg_version.specs.declared.cell.TheConstants.{ANCHOR_LEN}
 use Rattle.mg_version.specs.declared.cell.Version.{Version}

@@ -29,8 +29,8 @@ use Rattle.mg_space.specs.declared.fault.SpaceFault.TheVariants as faults
 use Rattle.mg_space.specs.declared.links.FireLinks.{FireLinks}
 use Rattle.mg_table_batch.specs.Filling.{PutsNaming, PutsRow, StoresRow, page_of_version}
 use Rattle.mg_table_batch.specs.Refusals.{RefusesNaming, RefusesRow, RefusesRows, RefusesRowsOf, own_memory, own_row, own_slot, row_unmade, row_unplaced, row_unstored, rows_first, rows_later}
-use Rattle.mg_image_overlays.specs.Growing.{IsTableOf, MayBeWritten}
-use Rattle.mg_image_overlays.specs.OneTable.{its_data}
+use Rattle.mg_image_overlays.specs.tables.Growing.{IsTableOf, MayBeWritten}
+use Rattle.mg_image_overlays.specs.tables.OneTable.{its_data}
 use Rattle.mg_version.specs.declared.cell.TheConstants.{ANCHOR_LEN}
 use Rattle.mg_version.specs.declared.cell.Version.{Version}
 use Rattle.mg_no_damage.specs.NewTables.{EachRow}

@@ -4,8 +4,8 @@ use Rattle.std.proofs.lemmas.Bool.{eq-eqb, eqb-true, false≢true}
 use Rattle.std.proofs.lemmas.List.{append_assoc}
 use Rattle.std.specs.Cmp.Lexicographic.{same_text}
 use Rattle.std.specs.Prelude.{if◌then◌else◌, is_some, map}
-use Rattle.mg_engine_changes.specs.BackEntries.{KeysEnterMidway}
-use Rattle.mg_engine_changes.specs.WrittenLaws.{kept_itself}
+use Rattle.mg_engine_changes.specs.entries.BackEntries.{KeysEnterMidway}
+use Rattle.mg_engine_changes.specs.keys.WrittenLaws.{kept_itself}
 use Rattle.mg_model.specs.declared.table.Index.{Index}
 use Rattle.mg_records.specs.Room.{most_indexes}
 use Rattle.mg_no_damage.specs.BackTrees.{StandsBack}
@@ -15,21 +15,21 @@ use Rattle.mg_base.specs.declared.numbers.TxNo.{TxNo}
 use Rattle.mg_core.specs.Cores.{IsCore}
 use Rattle.mg_core.specs.Refusing.{CountsFault}
 use Rattle.mg_core.specs.declared.parts.Core.{Core}
-use Rattle.mg_engine_changes.specs.BackBegun.{begun_work, goes, kept_begun, knows, midway, opening}
-use Rattle.mg_engine_changes.specs.EngineOverLaws.{rest_within}
-use Rattle.mg_engine_changes.specs.Events.{takes_back, undo_is}
-use Rattle.mg_engine_changes.specs.Keys.{HasTakenKeys, IsOfTable}
-use Rattle.mg_engine_changes.specs.Known.{KnownOfBacks}
-use Rattle.mg_engine_changes.specs.Outcomes.{back_event}
-use Rattle.mg_engine_changes.specs.Stopped.{each_front}
-use Rattle.mg_engine_changes.specs.StopsAfter.{begun_as}
-use Rattle.mg_engine_changes.specs.ToTake.{AreKeysOf, EachChange, since_if, since_point}
-use Rattle.mg_engine_changes.specs.WrittenLaws.{first_named}
+use Rattle.mg_engine_changes.specs.backs.BackBegun.{begun_work, goes, kept_begun, knows, midway, opening}
+use Rattle.mg_engine_changes.specs.tables_back.EngineOverLaws.{rest_within}
+use Rattle.mg_engine_changes.specs.backs.Events.{takes_back, undo_is}
+use Rattle.mg_engine_changes.specs.keys.Keys.{HasTakenKeys, IsOfTable}
+use Rattle.mg_engine_changes.specs.backs.Known.{KnownOfBacks}
+use Rattle.mg_engine_changes.specs.backs.Outcomes.{back_event}
+use Rattle.mg_engine_changes.specs.given_up.Stopped.{each_front}
+use Rattle.mg_engine_changes.specs.given_up.StopsAfter.{begun_as}
+use Rattle.mg_engine_changes.specs.backs.ToTake.{AreKeysOf, EachChange, since_if, since_point}
+use Rattle.mg_engine_changes.specs.keys.WrittenLaws.{first_named}
 use Rattle.mg_engine_meaning.specs.Formers.{MayReturn, MayReturnTo}
 use Rattle.mg_engine_meaning.specs.KeptLaws.{has_kept}
 use Rattle.mg_engine_meaning.specs.Standings.{AreOfKept, AreTold, ShowsIt, StandsFor, asked_in, sessions_in, standing_of}
-use Rattle.mg_engine_steps.specs.Known.{catalog_is_shown}
-use Rattle.mg_engine_steps.specs.Standing.{Standing}
+use Rattle.mg_engine_steps.specs.standing.Known.{catalog_is_shown}
+use Rattle.mg_engine_steps.specs.standing.Standing.{Standing}
 use Rattle.mg_model.specs.Answers.{catalog_of, told as told_by}
 use Rattle.mg_model.specs.Changes.{has_change, is_at, same_key, same_name}
 use Rattle.mg_model.specs.DeedLaws.{deeds_after, deeds_after_entry}

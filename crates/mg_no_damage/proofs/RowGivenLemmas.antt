@@ -4,10 +4,10 @@ use Rattle.std.proofs.Common.{◌≡◌, ◌∙◌, ◌++◌, ◌&&◌, ◌||◌
 use Rattle.std.specs.Prelude.{if◌then◌else◌, map}
 use Rattle.std.specs.Cmp.Lexicographic.{same_text}
 use Rattle.std.proofs.lemmas.Bool.{false≢true}
-use Rattle.mg_engine_changes.specs.RowsGiven.{of_catalog}
-use Rattle.mg_engine_changes.specs.ToTake.{AreOfOtherKeys, EachChange}
-use Rattle.mg_engine_steps.specs.Outs.{is_among}
-use Rattle.mg_engine_steps.specs.OutsThereLaws.{same_itself}
+use Rattle.mg_engine_changes.specs.tables_back.RowsGiven.{of_catalog}
+use Rattle.mg_engine_changes.specs.backs.ToTake.{AreOfOtherKeys, EachChange}
+use Rattle.mg_engine_steps.specs.tables_back.Outs.{is_among}
+use Rattle.mg_engine_steps.specs.tables_back.OutsThereLaws.{same_itself}
 use Rattle.mg_model.specs.Catalog.{catalog_name}
 use Rattle.mg_model.specs.Changes.{is_at, same_key, same_name}
 use Rattle.mg_model.specs.ReadLaws.{same_name_itself}

@@ -10,14 +10,14 @@ use Rattle.mg_base.specs.declared.transaction.TxState.TheVariants.{Active, Commi
 use Rattle.mg_chain.specs.Views.{first_entry}
 use Rattle.mg_engine_meaning.specs.LoneRows.{AreLone, IsLone}
 use Rattle.mg_engine_meaning.specs.LoneRowsLaws.{lone_newest}
-use Rattle.mg_engine_steps.specs.BasedLaws.{tests_all}
-use Rattle.mg_engine_steps.specs.CatalogPages.{catalog_page_named}
-use Rattle.mg_engine_steps.specs.Outs.{GoesWhole, ReadsWithout, is_among}
-use Rattle.mg_engine_steps.specs.OwnChains.{own_told}
-use Rattle.mg_engine_steps.specs.SameRecords.{catalog_stands, same_catalog, same_record}
-use Rattle.mg_engine_steps.specs.Shown.{ShowsMidway}
-use Rattle.mg_engine_steps.specs.Standing.{Remembers, ShowsHistory, Standing}
-use Rattle.mg_engine_steps.specs.Versions.{SpeaksFor}
+use Rattle.mg_engine_steps.specs.standing.BasedLaws.{tests_all}
+use Rattle.mg_engine_steps.specs.tables_back.CatalogPages.{catalog_page_named}
+use Rattle.mg_engine_steps.specs.tables_back.Outs.{GoesWhole, ReadsWithout, is_among}
+use Rattle.mg_engine_steps.specs.standing.OwnChains.{own_told}
+use Rattle.mg_engine_steps.specs.tables.SameRecords.{catalog_stands, same_catalog, same_record}
+use Rattle.mg_engine_steps.specs.backs.Shown.{ShowsMidway}
+use Rattle.mg_engine_steps.specs.standing.Standing.{Remembers, ShowsHistory, Standing}
+use Rattle.mg_engine_steps.specs.standing.Versions.{SpeaksFor}
 use Rattle.mg_generations.specs.Kept.{IsErasedForAll, IsSeenByAll}
 use Rattle.mg_image.specs.Form.{Pages, packed_coding, packed_form}
 use Rattle.mg_image.specs.Held.{told_row}
@@ -29,9 +29,9 @@ use Rattle.mg_image.specs.Records.{Reading, record_key, writer}
 use Rattle.mg_image.specs.Sound.{IsSoundBy, facts_by}
 use Rattle.mg_image.specs.Tables.{Layout, Stand, has, stands_of, table_at}
 use Rattle.mg_image.specs.declared.entry.Entry.{Entry as Read}
-use Rattle.mg_image_overlays.specs.Fronts.{is_dead, living}
-use Rattle.mg_image_overlays.specs.Growing.{IsTableOf}
-use Rattle.mg_image_overlays.specs.OneChain.{same_stand}
+use Rattle.mg_image_overlays.specs.records.Fronts.{is_dead, living}
+use Rattle.mg_image_overlays.specs.tables.Growing.{IsTableOf}
+use Rattle.mg_image_overlays.specs.tables.OneChain.{same_stand}
 use Rattle.mg_model.specs.Answers.{is_active, is_committed}
 use Rattle.mg_model.specs.Catalog.{catalog_name}
 use Rattle.mg_model.specs.Changes.{has_change}

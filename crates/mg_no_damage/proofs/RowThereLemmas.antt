@@ -6,8 +6,8 @@ use Rattle.mg_base.specs.declared.transaction.TxState.{TxState}
 use Rattle.mg_base.specs.declared.transaction.TxState.TheVariants.{Active}
 use Rattle.mg_chain.specs.Chains.{newest_link}
 use Rattle.mg_chain.specs.Views.{first_entry, is_dead}
-use Rattle.mg_engine_steps.specs.Listed.{page_listed}
-use Rattle.mg_engine_steps.specs.TablePages.{table_there}
+use Rattle.mg_engine_steps.specs.standing.Listed.{page_listed}
+use Rattle.mg_engine_steps.specs.tables.TablePages.{table_there}
 use Rattle.mg_heap.specs.Table.{IsTable}
 use Rattle.mg_image.specs.Form.{Pages, packed_form}
 use Rattle.mg_image.specs.RecordRules.{Facts}
@@ -15,9 +15,9 @@ use Rattle.mg_image.specs.Records.{Cells, Chain, Reading, cells_of, ended, goes,
 use Rattle.mg_image.specs.Sound.{IsSoundBy, facts_by}
 use Rattle.mg_image.specs.Tables.{Has, Layout, entries_in, stands_of, table_at}
 use Rattle.mg_image.specs.declared.entry.Entry.{Entry as Read}
-use Rattle.mg_image_overlays.specs.Growing.{IsTableOf}
-use Rattle.mg_image_overlays.specs.OneChain.{link_once}
-use Rattle.mg_image_overlays.specs.OneTable.{its_data}
+use Rattle.mg_image_overlays.specs.tables.Growing.{IsTableOf}
+use Rattle.mg_image_overlays.specs.tables.OneChain.{link_once}
+use Rattle.mg_image_overlays.specs.tables.OneTable.{its_data}
 use Rattle.mg_model.specs.Answers.{is_committed}
 use Rattle.mg_model.specs.declared.table.Table.{Table}
 use Rattle.mg_pointer.specs.PointerPage.{next_in}

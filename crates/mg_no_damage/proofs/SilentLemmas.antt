@@ -2,9 +2,9 @@
 -- that count.
 use Rattle.std.proofs.Common.{◌≡◌, ◌⊎◌, ◌∙◌, ap, inl, inr, refl, subst, sym, ℕ, List, [], ◌∷◌, Some}
 use Rattle.mg_base.specs.declared.numbers.RecId.{RecId}
-use Rattle.mg_engine_steps.specs.Shown.{IsTakenBack, ShowsMidway}
-use Rattle.mg_engine_steps.specs.Standing.{ShowsHistory, Standing}
-use Rattle.mg_engine_steps.specs.Versions.{SpeaksOrSilent}
+use Rattle.mg_engine_steps.specs.backs.Shown.{IsTakenBack, ShowsMidway}
+use Rattle.mg_engine_steps.specs.standing.Standing.{ShowsHistory, Standing}
+use Rattle.mg_engine_steps.specs.standing.Versions.{SpeaksOrSilent}
 use Rattle.mg_generations.specs.Kept.{IsErasedForAll}
 use Rattle.mg_image.specs.Form.{Pages, packed_form}
 use Rattle.mg_image.specs.RecordRules.{Facts, table_in}

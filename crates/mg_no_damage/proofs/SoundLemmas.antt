@@ -4,9 +4,9 @@ use Rattle.mg_image.specs.Catalog.{IsSameTable}
 use Rattle.mg_image.specs.Form.{Pages, packed_form}
 use Rattle.mg_image.specs.Sound.{HasTablePages}
 use Rattle.mg_image.specs.Tables.{EachStand, Stand, has, stands_of, table_at}
-use Rattle.mg_image_overlays.specs.Reach.{has_it}
+use Rattle.mg_image_overlays.specs.pages.Reach.{has_it}
 use Rattle.mg_model.specs.declared.table.Table.{Table}
-use Rattle.mg_image_overlays.specs.Knowing.{its_pages, of_table}
+use Rattle.mg_image_overlays.specs.kept.Knowing.{its_pages, of_table}
 use Rattle.mg_no_damage.specs.Sees.{IsPageOf}
 use Rattle.mg_no_damage.specs.Sound.{SoundRecordsAreLawful, SoundTablesStand}
 

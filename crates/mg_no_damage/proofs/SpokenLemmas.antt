@@ -7,7 +7,7 @@ use Rattle.mg_base.specs.declared.numbers.TxNo.{TxNo}
 use Rattle.mg_base.specs.declared.transaction.TxState.{TxState}
 use Rattle.mg_chain.specs.Chains.{newest_link}
 use Rattle.mg_chain.specs.Views.{first_entry, is_dead}
-use Rattle.mg_engine_steps.specs.Versions.{HaveVersions, SpeaksFor}
+use Rattle.mg_engine_steps.specs.standing.Versions.{HaveVersions, SpeaksFor}
 use Rattle.mg_image.specs.Form.{Pages, packed_coding}
 use Rattle.mg_image.specs.RecordRules.{AreRecords}
 use Rattle.mg_image.specs.Records.{Reading, cells_of}

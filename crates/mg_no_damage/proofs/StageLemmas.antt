@@ -24,8 +24,8 @@ use Rattle.mg_space.specs.ViewLaws.{tells_on}
 use Rattle.mg_space.specs.declared.links.FireLinks.{FireLinks}
 use Rattle.mg_ties.specs.Changed.{BatchIsChanged, changed_batches_are}
 use Rattle.mg_table_batch.specs.Making.{Grows}
-use Rattle.mg_image_overlays.specs.Growing.{IsTableOf}
-use Rattle.mg_image_overlays.specs.OneTable.{its_data}
+use Rattle.mg_image_overlays.specs.tables.Growing.{IsTableOf}
+use Rattle.mg_image_overlays.specs.tables.OneTable.{its_data}
 use Rattle.mg_no_damage.specs.Given.{data_apart}
 use Rattle.mg_no_damage.proofs.MidwayLemmas.{IsMidway, its_catalog, room_placed, room_stays, room_step}
 use Rattle.mg_no_damage.specs.Reading.{Reads, views}

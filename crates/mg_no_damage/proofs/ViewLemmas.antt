@@ -38,7 +38,7 @@ use Rattle.mg_space.specs.declared.fault.SpaceFault.{SpaceFault}
 use Rattle.mg_space.specs.declared.fault.SpaceFault.TheVariants as space
 use Rattle.mg_space.specs.declared.links.FireLinks.{FireLinks}
 use Rattle.mg_heap.specs.Reading.{ReadsData}
-use Rattle.mg_image_overlays.specs.Knowing.{its_pages}
+use Rattle.mg_image_overlays.specs.kept.Knowing.{its_pages}
 use Rattle.mg_txlist.specs.TxList.{said}
 use Rattle.mg_works.specs.Works.{MayBeGiven}
 use Rattle.mg_core.specs.declared.parts.Core.{Core}
@@ -49,11 +49,11 @@ use Rattle.mg_no_damage.specs.Sees.{no_batch}
 use Rattle.mg_no_damage.specs.Sound.{SoundRecordsAreLawful, SoundTablesStand}
 use Rattle.mg_no_damage.specs.Tables.{TablesAreRead}
 use Rattle.mg_no_damage.specs.CoreReads.{ShowsTable}
-use Rattle.mg_engine_steps.specs.Standing.{Standing}
-use Rattle.mg_engine_steps.specs.Known.{IsShown, KnowsPages, seen_is_shown}
-use Rattle.mg_engine_steps.specs.Found.{FoundTablesStand}
-use Rattle.mg_engine_steps.specs.Lawful.{SeenRowsAreLawful}
-use Rattle.mg_engine_steps.specs.SeenRows.{named_is}
+use Rattle.mg_engine_steps.specs.standing.Standing.{Standing}
+use Rattle.mg_engine_steps.specs.standing.Known.{IsShown, KnowsPages, seen_is_shown}
+use Rattle.mg_engine_steps.specs.tables.Found.{FoundTablesStand}
+use Rattle.mg_engine_steps.specs.tables.Lawful.{SeenRowsAreLawful}
+use Rattle.mg_engine_steps.specs.tables.SeenRows.{named_is}
 use Rattle.mg_engine_meaning.specs.Standings.{ShowsIt, StandsFor, standing_of}
 use Rattle.mg_engine_meaning.specs.StepLaws.{shows_of}
 use Rattle.mg_engine_meaning.specs.KeepLaws.{catalog_shown}

@@ -17,10 +17,10 @@ use Rattle.mg_core.specs.declared.scanning.Place.{Place}
 use Rattle.mg_engine_meaning.specs.Reads.{AreRanked}
 use Rattle.mg_engine_meaning.specs.Meaning.{AreNext, ComesTo, Places, place_at}
 use Rattle.mg_engine_meaning.specs.Standings.{standing_of}
-use Rattle.mg_engine_steps.specs.Standing.{Standing}
-use Rattle.mg_engine_steps.specs.TablePages.{data_once, table_there}
-use Rattle.mg_engine_steps.specs.WalkPlaces.{sequence_named, stands_at}
-use Rattle.mg_engine_steps.specs.Walking.{AreToCome, HasAt, StandsInTurn, WalkPlace, rec_of}
+use Rattle.mg_engine_steps.specs.standing.Standing.{Standing}
+use Rattle.mg_engine_steps.specs.tables.TablePages.{data_once, table_there}
+use Rattle.mg_engine_steps.specs.reads.WalkPlaces.{sequence_named, stands_at}
+use Rattle.mg_engine_steps.specs.reads.Walking.{AreToCome, HasAt, StandsInTurn, WalkPlace, rec_of}
 use Rattle.mg_heap.specs.Reading.{ReadsData}
 use Rattle.mg_heap.specs.Stands.{StandsIn}
 use Rattle.mg_heap.specs.Walk.{GivesNext}

@@ -36,15 +36,15 @@ use Rattle.mg_core.specs.Putting.{FailsKept, FailsPut, key_too_long, no_before, 
 use Rattle.mg_core.specs.Refusing.{CountsFault}
 use Rattle.mg_core.specs.Writing.{FailsWrite, IsFree, Writes, at_record, at_row, at_table, no_key, not_begun, not_put, only_reads, KnowsKey}
 use Rattle.mg_no_damage.specs.CoreReads.{BeforesAreRead, KeysAreNamed, RecordsArePassed, RowsAreFound, ShowsTable, TablesArePassed}
-use Rattle.mg_engine_changes.specs.KeptTables.{NotedTablesAreKept, NotedWorksStay, NotesStay}
-use Rattle.mg_engine_changes.specs.Laid.{HasNoted}
-use Rattle.mg_engine_changes.specs.NotedLaws.{noted_core, noted_given, table_noted}
-use Rattle.mg_engine_changes.specs.RefusalLaws.{free_read}
-use Rattle.mg_engine_changes.specs.Refusals.{IsReady}
+use Rattle.mg_engine_changes.specs.memory.KeptTables.{NotedTablesAreKept, NotedWorksStay, NotesStay}
+use Rattle.mg_engine_changes.specs.rows.Laid.{HasNoted}
+use Rattle.mg_engine_changes.specs.rows.NotedLaws.{noted_core, noted_given, table_noted}
+use Rattle.mg_engine_changes.specs.rows.RefusalLaws.{free_read}
+use Rattle.mg_engine_changes.specs.rows.Refusals.{IsReady}
 use Rattle.mg_engine_meaning.specs.Meaning.{Places}
 use Rattle.mg_engine_meaning.specs.Standings.{ShowsIt, StandsFor, standing_of}
 use Rattle.mg_engine_meaning.specs.StepLaws.{shows_of}
-use Rattle.mg_engine_steps.specs.Known.{IsShown, seen_is_shown}
+use Rattle.mg_engine_steps.specs.standing.Known.{IsShown, seen_is_shown}
 use Rattle.mg_no_damage.specs.Keyed.{IsKeyed, TablesAreKeyed}
 use Rattle.mg_taking_back.specs.Noting.{noted_fails, noted_memory, noted_not, with_noted}
 use Rattle.mg_no_damage.specs.Calls.{WritesMeetNone}

@@ -1,17 +1,17 @@
 -- The laws that a write asks for.
 use Rattle.mg_no_damage.specs.Inventory.{PagesAreTaken}
 use Rattle.mg_entry_ties.specs.Laws.{InsertionsAreLawful, InsertionsMeetNone}
-use Rattle.mg_engine_changes.specs.Starts.{EntriesEnter, RowsEnter, StartsStand}
+use Rattle.mg_engine_changes.specs.rows.Starts.{EntriesEnter, RowsEnter, StartsStand}
 use Rattle.mg_core.specs.declared.scanning.Place.{Place}
-use Rattle.mg_engine_changes.specs.Directories.{DirectoriesTell}
+use Rattle.mg_engine_changes.specs.memory.Directories.{DirectoriesTell}
 use Rattle.mg_base.specs.Disk.{Meaning}
-use Rattle.mg_engine_steps.specs.AnswersLaws.{NothingAtKeys, ObstaclesAtKeys, RowsAtKeys, SpeakersAreTold}
-use Rattle.mg_engine_steps.specs.ListShows.{ListsStay}
-use Rattle.mg_engine_steps.specs.Unasked.{UnaskingLasts}
-use Rattle.mg_engine_changes.specs.Befores.{BeforesAreTold}
-use Rattle.mg_engine_changes.specs.Codes.{StoredRowsAreCoded}
-use Rattle.mg_engine_changes.specs.Kept.{MadeWritesFollow}
-use Rattle.mg_engine_changes.specs.Owners.{SeenMayBeWritten}
+use Rattle.mg_engine_steps.specs.reads.AnswersLaws.{NothingAtKeys, ObstaclesAtKeys, RowsAtKeys, SpeakersAreTold}
+use Rattle.mg_engine_steps.specs.commits.ListShows.{ListsStay}
+use Rattle.mg_engine_steps.specs.commits.Unasked.{UnaskingLasts}
+use Rattle.mg_engine_changes.specs.rows.Befores.{BeforesAreTold}
+use Rattle.mg_engine_changes.specs.rows.Codes.{StoredRowsAreCoded}
+use Rattle.mg_engine_changes.specs.rows.Kept.{MadeWritesFollow}
+use Rattle.mg_engine_changes.specs.rows.Owners.{SeenMayBeWritten}
 use Rattle.mg_image.specs.Form.{packed_form}
 use Rattle.mg_model.specs.Laws.{OpeningsBegin}
 use Rattle.mg_no_damage.specs.Sound.{SoundRecordsAreLawful, SoundTablesStand}

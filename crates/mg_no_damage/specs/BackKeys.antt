@@ -4,14 +4,14 @@ use Rattle.mg_base.specs.Disk.{Meaning}
 use Rattle.mg_base.specs.Image.{Image}
 use Rattle.mg_base.specs.declared.damage.Damaged.{Damaged}
 use Rattle.mg_base.specs.declared.transaction.TxState.{TxState}
-use Rattle.mg_engine_changes.specs.Takings.{KnowsCache}
-use Rattle.mg_engine_changes.specs.TakingSteps.{StandsMidway}
+use Rattle.mg_engine_changes.specs.keys.Takings.{KnowsCache}
+use Rattle.mg_engine_changes.specs.keys.TakingSteps.{StandsMidway}
 use Rattle.mg_engine_meaning.specs.Formers.{MayReturn}
 use Rattle.mg_engine_meaning.specs.Standings.{KeepsWritten}
-use Rattle.mg_engine_steps.specs.Standing.{Remembers, ShowsHistory, Standing}
+use Rattle.mg_engine_steps.specs.standing.Standing.{Remembers, ShowsHistory, Standing}
 use Rattle.mg_image.specs.Form.{Pages, packed_form}
 use Rattle.mg_model.specs.Changes.{has_change}
-use Rattle.mg_engine_steps.specs.Midway.{GoesBack}
+use Rattle.mg_engine_steps.specs.backs.Midway.{GoesBack}
 use Rattle.mg_model.specs.Legal.{IsLegal, MayBegin}
 use Rattle.mg_model.specs.declared.change.Point.{Point}
 use Rattle.mg_model.specs.History.{Entries, Entry}

@@ -7,7 +7,7 @@ use Rattle.mg_base.specs.declared.numbers.TxNo.{TxNo}
 use Rattle.mg_catalog.specs.RowsSaid.{column_rows}
 use Rattle.mg_core.specs.Cores.{IsCore}
 use Rattle.mg_core.specs.declared.parts.Core.{Core}
-use Rattle.mg_engine_changes.specs.MakingSteps.{MayHave}
+use Rattle.mg_engine_changes.specs.tables.MakingSteps.{MayHave}
 use Rattle.mg_engine_meaning.specs.Meaning.{Places}
 use Rattle.mg_engine_meaning.specs.Standings.{StandsFor}
 use Rattle.mg_image.specs.Form.{Row}

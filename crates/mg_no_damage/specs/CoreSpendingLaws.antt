@@ -12,8 +12,8 @@ use Rattle.mg_core.specs.Reading.{FailsReading, OnlyReads}
 use Rattle.mg_core.specs.Events.{IsRefused}
 use Rattle.mg_core.specs.Refusing.{IsRefusal}
 use Rattle.mg_core.specs.Writing.{FailsKey, FailsRow, FailsWrite, IsFree, IsWrong, Writes, at_record, at_row, at_table, key_memory, key_null, no_key, not_begun, not_put, only_reads, row_unread, row_wrong}
-use Rattle.mg_engine_changes.specs.Notes.{HasRead}
-use Rattle.mg_engine_changes.specs.RefusalLaws.{begun_read, found_read, free_read, passed_read}
+use Rattle.mg_engine_changes.specs.memory.Notes.{HasRead}
+use Rattle.mg_engine_changes.specs.rows.RefusalLaws.{begun_read, found_read, free_read, passed_read}
 use Rattle.mg_heap.specs.Reading.{ReadsData}
 use Rattle.mg_image.specs.Form.{Pages}
 use Rattle.mg_model.specs.declared.refusal.Refusal.{Refusal}
@@ -46,7 +46,7 @@ use Rattle.mg_no_damage.specs.CoreSpending.{IsNoWant, TakesPages}
 use Rattle.mg_free_pages.specs.RowSpending.{BatchLaws}
 use Rattle.mg_free_pages.specs.Spending.{SpendsAtMost, ToldAreHeld}
 use Rattle.mg_free_pages.specs.SpendingLaws.{both_spend, more_spent, nothing_spent, read_spends}
-use Rattle.mg_engine_changes.specs.WriteWays.{ready_of}
+use Rattle.mg_engine_changes.specs.rows.WriteWays.{ready_of}
 use Rattle.mg_entry_ties.specs.Laws.{InsertionsAreThere, InsertionsTakeEighteen}
 use Rattle.mg_no_damage.specs.EntryRoom.{lay_fails_within, lay_takes}
 use Rattle.mg_no_damage.specs.EntryTrees.{StandsAtStarts, TreesAtStarts}

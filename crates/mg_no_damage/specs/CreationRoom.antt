@@ -9,9 +9,9 @@ use Rattle.mg_core.specs.Cores.{IsCore}
 use Rattle.mg_core.specs.Putting.{CountsOne}
 use Rattle.mg_core.specs.Reading.{OnlyReads}
 use Rattle.mg_core.specs.Writing.{HasBegun, WhyOfKey}
-use Rattle.mg_engine_changes.specs.MakingSteps.{MayHave}
-use Rattle.mg_engine_changes.specs.Notes.{HasRead}
-use Rattle.mg_engine_changes.specs.StopLaws.{ended_read, reads_on}
+use Rattle.mg_engine_changes.specs.tables.MakingSteps.{MayHave}
+use Rattle.mg_engine_changes.specs.memory.Notes.{HasRead}
+use Rattle.mg_engine_changes.specs.rows.StopLaws.{ended_read, reads_on}
 use Rattle.mg_engine_meaning.specs.Meaning.{Places}
 use Rattle.mg_engine_meaning.specs.Standings.{StandsFor}
 use Rattle.mg_model.specs.History.{Entries}

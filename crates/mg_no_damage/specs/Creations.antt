@@ -4,7 +4,7 @@ use Rattle.mg_base.specs.Disk.{Meaning}
 use Rattle.mg_base.specs.declared.numbers.TxNo.{TxNo}
 use Rattle.mg_core.specs.Cores.{IsCore}
 use Rattle.mg_core.specs.declared.parts.Core.{Core}
-use Rattle.mg_engine_changes.specs.MakingSteps.{MayHave}
+use Rattle.mg_engine_changes.specs.tables.MakingSteps.{MayHave}
 use Rattle.mg_engine_meaning.specs.Meaning.{Places}
 use Rattle.mg_no_damage.specs.Stands.{DamageStands}
 use Rattle.mg_model.specs.declared.refusal.Refusal.{Refusal}

@@ -7,9 +7,9 @@ use Rattle.mg_base.specs.declared.numbers.RecId.{RecId}
 use Rattle.mg_base.specs.declared.numbers.TxNo.{TxNo}
 use Rattle.mg_core.specs.Cores.{IsCore}
 use Rattle.mg_core.specs.declared.parts.Core.{Core}
-use Rattle.mg_engine_changes.specs.BackEntries.{HasEnteredBack}
+use Rattle.mg_engine_changes.specs.entries.BackEntries.{HasEnteredBack}
 use Rattle.mg_engine_meaning.specs.Standings.{StandsFor}
-use Rattle.mg_engine_steps.specs.Standing.{ShowsHistory, Standing}
+use Rattle.mg_engine_steps.specs.standing.Standing.{ShowsHistory, Standing}
 use Rattle.mg_entry_steps.specs.EntryBatchLaws.{HasTree, table_tree}
 use Rattle.mg_image.specs.Form.{Pages, Row, packed_form}
 use Rattle.mg_image.specs.Sound.{IsSoundBy}

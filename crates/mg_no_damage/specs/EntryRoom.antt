@@ -3,7 +3,7 @@ use Rattle.std.proofs.Common.{inl, inr, ◌≡◌, ◌≤◌, ◌+◌, ◌*◌, 
 use Rattle.mg_base.specs.Disk.{Meaning}
 use Rattle.mg_base.specs.declared.numbers.RecId.{RecId}
 use Rattle.mg_batches.specs.Batches.{nothing_yet}
-use Rattle.mg_engine_changes.specs.EnteredAllLaws.{no_more}
+use Rattle.mg_engine_changes.specs.entries.EnteredAllLaws.{no_more}
 use Rattle.mg_entries.specs.Entries.{FailsAll}
 use Rattle.mg_entry_ties.specs.IndexPlaces.{HasRoot}
 use Rattle.mg_entry_ties.specs.Laws.{InsertionsAreThere, InsertionsTakeEighteen}

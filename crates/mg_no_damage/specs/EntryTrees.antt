@@ -9,19 +9,19 @@ use Rattle.mg_base.specs.declared.transaction.TxState.TheVariants.{Active}
 use Rattle.mg_core.specs.Cores.{Continues, IsCore}
 use Rattle.mg_core.specs.declared.parts.Core.{Core}
 use Rattle.mg_core.specs.declared.scanning.Place.{Place}
-use Rattle.mg_engine_changes.specs.Laid.{DeadsStay, EntriesStayOver, HasNoted, PlacesStay, ReadyStays, StaysOver}
-use Rattle.mg_engine_changes.specs.MadeLaws.{all_on}
-use Rattle.mg_engine_changes.specs.Notes.{HasRead}
-use Rattle.mg_engine_changes.specs.RefusalLaws.{free_read}
-use Rattle.mg_engine_changes.specs.Refusals.{IsReady}
-use Rattle.mg_engine_changes.specs.StopLaws.{reads_on}
+use Rattle.mg_engine_changes.specs.rows.Laid.{DeadsStay, EntriesStayOver, HasNoted, PlacesStay, ReadyStays, StaysOver}
+use Rattle.mg_engine_changes.specs.rows.MadeLaws.{all_on}
+use Rattle.mg_engine_changes.specs.memory.Notes.{HasRead}
+use Rattle.mg_engine_changes.specs.rows.RefusalLaws.{free_read}
+use Rattle.mg_engine_changes.specs.rows.Refusals.{IsReady}
+use Rattle.mg_engine_changes.specs.rows.StopLaws.{reads_on}
 use Rattle.mg_engine_meaning.specs.Meaning.{Places}
 use Rattle.mg_engine_meaning.specs.Standings.{ShowsIt, StandsFor, standing_of}
 use Rattle.mg_engine_meaning.specs.StepLaws.{shows_of}
 use Rattle.mg_entry_steps.specs.EntryBatchLaws.{HasTree, table_tree}
 use Rattle.mg_image.specs.Form.{Row, packed_form}
-use Rattle.mg_image_overlays.specs.Growing.{IsTableOf}
-use Rattle.mg_image_overlays.specs.OneTable.{stands_in}
+use Rattle.mg_image_overlays.specs.tables.Growing.{IsTableOf}
+use Rattle.mg_image_overlays.specs.tables.OneTable.{stands_in}
 use Rattle.mg_index_overlays.specs.SoundLaws.{tree_inventory}
 use Rattle.mg_model.specs.History.{Entries}
 use Rattle.mg_model.specs.Openings.{everyone}

@@ -25,8 +25,8 @@ use Rattle.mg_core.specs.Ending.{Commits, RefusesCommit}
 use Rattle.mg_core.specs.Events.{EndsWait, IsRefused, Looks, RollsBack, SetsPoint}
 use Rattle.mg_core.specs.Scanning.{Scans}
 use Rattle.mg_core.specs.Tables.{AnswersTable}
-use Rattle.mg_engine_changes.specs.MakingSteps.{MayHave}
-use Rattle.mg_engine_changes.specs.Outcomes.{IsRolledShort}
+use Rattle.mg_engine_changes.specs.tables.MakingSteps.{MayHave}
+use Rattle.mg_engine_changes.specs.backs.Outcomes.{IsRolledShort}
 use Rattle.mg_engine_meaning.specs.Meaning.{Places}
 use Rattle.mg_table_making.specs.Creating.{CreatesTable, FailsCreation}
 use Rattle.mg_table_takings.specs.Takings.{FailsTablesTo, GoesBackOver, TakesTablesTo}

@@ -16,7 +16,7 @@ use Rattle.mg_image.specs.Inventory.{inventory_page, is_used}
 use Rattle.mg_image.specs.Records.{Reading}
 use Rattle.mg_image.specs.Sound.{HasRegion, IsSoundBy}
 use Rattle.mg_image.specs.Tables.{Has, Layout}
-use Rattle.mg_image_overlays.specs.DataPages.{all_passes, byte_blank, kind_of}
+use Rattle.mg_image_overlays.specs.pages.DataPages.{all_passes, byte_blank, kind_of}
 use Rattle.mg_model.specs.declared.table.Table.{Table}
 use Rattle.mg_no_damage.specs.Sees.{no_batch}
 use Rattle.mg_pip.specs.PipPage.{bits, pip_checks}
@@ -29,7 +29,7 @@ use Rattle.mg_space.specs.Taking.{IsGeometry, region_of}
 use Rattle.mg_space.specs.TakingLaws.{takes_bit, takes_keeps}
 use Rattle.mg_space.specs.View.{viewed}
 use Rattle.mg_space.specs.declared.links.FireLinks.{FireLinks}
-use Rattle.mg_image_overlays.specs.Growing.{IsTableOf}
+use Rattle.mg_image_overlays.specs.tables.Growing.{IsTableOf}
 use Rattle.mg_no_damage.specs.Lawful.{IsGood, good_both, good_more, good_none, good_orders, good_puts, good_to, in_here, in_still}
 use Rattle.mg_no_damage.specs.RankLaws.{rank_a, rank_none, rank_of, rank_p, rank_q}
 use Rattle.mg_no_damage.specs.WriteStanding.{IsStanding, cells_there, data_there, sound_standing}

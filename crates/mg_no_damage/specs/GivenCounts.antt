@@ -6,13 +6,13 @@ use Rattle.mg_base.specs.Disk.{Meaning}
 use Rattle.mg_base.specs.declared.numbers.TxNo.{TxNo}
 use Rattle.mg_core.specs.Cores.{Continues}
 use Rattle.mg_core.specs.declared.parts.Core.{Core}
-use Rattle.mg_engine_changes.specs.Events.{may_go, takes_back}
-use Rattle.mg_engine_changes.specs.GivenLaws.{what_is_given}
-use Rattle.mg_engine_changes.specs.Outcomes.{back_event}
-use Rattle.mg_engine_changes.specs.ToTake.{KeysAreTaken, since_if, since_point}
+use Rattle.mg_engine_changes.specs.backs.Events.{may_go, takes_back}
+use Rattle.mg_engine_changes.specs.backs.GivenLaws.{what_is_given}
+use Rattle.mg_engine_changes.specs.backs.Outcomes.{back_event}
+use Rattle.mg_engine_changes.specs.backs.ToTake.{KeysAreTaken, since_if, since_point}
 use Rattle.mg_engine_meaning.specs.Standings.{ShowsIt, StandsFor, standing_of, undo_kept}
 use Rattle.mg_engine_meaning.specs.StepLaws.{shows_of}
-use Rattle.mg_engine_steps.specs.Standing.{Standing}
+use Rattle.mg_engine_steps.specs.standing.Standing.{Standing}
 use Rattle.mg_model.specs.Effects.{has_deed}
 use Rattle.mg_model.specs.History.{Entries, entry}
 use Rattle.mg_model.specs.Machine.{deeds_by, has_point, is_point, own, steps}

@@ -8,7 +8,7 @@ use Rattle.mg_image.specs.Tables.{Layout}
 use Rattle.mg_model.specs.declared.table.Table.{Table}
 use Rattle.mg_seek.specs.Rows.{GivesRow}
 use Rattle.mg_image_openings.specs.Fits.{LaterAreNull}
-use Rattle.mg_image_overlays.specs.Growing.{IsTableOf}
+use Rattle.mg_image_overlays.specs.tables.Growing.{IsTableOf}
 use Rattle.mg_value.specs.declared.shape.Column.{Column}
 use Rattle.mg_value.specs.declared.shape.Shape.{Shape}
 use Rattle.mg_value.specs.Rows.{RowFits}

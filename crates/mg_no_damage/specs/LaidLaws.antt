@@ -21,7 +21,7 @@ use Rattle.mg_image.specs.Form.{Pages, packed_form}
 use Rattle.mg_image.specs.Records.{Reading, cells_of, slot_cell}
 use Rattle.mg_image.specs.Sound.{IsSoundBy}
 use Rattle.mg_image.specs.Tables.{EachFrom, Has, Layout, stands_of, table_at}
-use Rattle.mg_image_overlays.specs.DataPages.{kind_of}
+use Rattle.mg_image_overlays.specs.pages.DataPages.{kind_of}
 use Rattle.mg_model.specs.declared.table.Table.{Table}
 use Rattle.mg_no_damage.specs.Sees.{no_batch}
 use Rattle.mg_pointer.specs.PointerPage.{pointer_checks}
@@ -32,8 +32,8 @@ use Rattle.mg_slots.specs.Room.{least_free, need_of, rest_of, room_of}
 use Rattle.mg_space.specs.Taking.{IsGeometry}
 use Rattle.mg_space.specs.View.{Tells, viewed}
 use Rattle.mg_space.specs.declared.links.FireLinks.{FireLinks}
-use Rattle.mg_image_overlays.specs.Growing.{IsTableOf}
-use Rattle.mg_image_overlays.specs.OneTable.{its_data}
+use Rattle.mg_image_overlays.specs.tables.Growing.{IsTableOf}
+use Rattle.mg_image_overlays.specs.tables.OneTable.{its_data}
 use Rattle.mg_version.specs.Cells.{IsSpelling}
 use Rattle.mg_version.specs.declared.cell.Cell.{Cell}
 use Rattle.mg_version.specs.declared.cell.Cell.TheVariants as cells

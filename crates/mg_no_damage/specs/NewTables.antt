@@ -19,7 +19,7 @@ use Rattle.mg_space.specs.declared.fault.SpaceFault.TheVariants as faults
 use Rattle.mg_space.specs.declared.links.FireLinks.{FireLinks}
 use Rattle.mg_table_batch.specs.Filling.{StoresRow, rows_at}
 use Rattle.mg_table_batch.specs.Making.{FailsTable}
-use Rattle.mg_image_overlays.specs.Growing.{MayBeWritten}
+use Rattle.mg_image_overlays.specs.tables.Growing.{MayBeWritten}
 use Rattle.mg_value.specs.Names.{IsName}
 use Rattle.mg_value.specs.declared.shape.Column.{Column}
 use Rattle.mg_value.specs.declared.shape.Shape.{Shape}

@@ -23,7 +23,7 @@ use Rattle.mg_image.specs.Inventory.{is_used}
 use Rattle.mg_image.specs.Records.{Reading}
 use Rattle.mg_image.specs.Sound.{IsCellOf, IsSoundBy}
 use Rattle.mg_image.specs.Tables.{Has, Layout, stands_of, table_at}
-use Rattle.mg_image_overlays.specs.Trees.{trees_stay}
+use Rattle.mg_image_overlays.specs.pages.Trees.{trees_stay}
 use Rattle.mg_model.specs.declared.table.Table.{Table}
 use Rattle.mg_space.specs.FreePages.{HasRegions}
 use Rattle.mg_space.specs.RegionLaws.{sound_regions}
@@ -40,11 +40,11 @@ use Rattle.mg_space.specs.ViewLaws.{viewed_else, viewed_here}
 use Rattle.mg_space.specs.declared.fault.SpaceFault.TheVariants as faults
 use Rattle.mg_space.specs.declared.links.FireLinks.{FireLinks}
 use Rattle.mg_version.specs.declared.cell.TheConstants.{ANCHOR_LEN}
-use Rattle.mg_image_overlays.specs.Growing.{IsTableOf}
-use Rattle.mg_image_overlays.specs.GrowingLaws.{StandsTo, grows_pool, table_of_end}
-use Rattle.mg_image_overlays.specs.Knowing.{entered_of}
-use Rattle.mg_image_overlays.specs.OneLayout.{sound_once}
-use Rattle.mg_image_overlays.specs.OneTable.{its_data}
+use Rattle.mg_image_overlays.specs.tables.Growing.{IsTableOf}
+use Rattle.mg_image_overlays.specs.tables.GrowingLaws.{StandsTo, grows_pool, table_of_end}
+use Rattle.mg_image_overlays.specs.kept.Knowing.{entered_of}
+use Rattle.mg_image_overlays.specs.tables.OneLayout.{sound_once}
+use Rattle.mg_image_overlays.specs.tables.OneTable.{its_data}
 use Rattle.mg_no_damage.specs.Reading.{Reads, page_there, place_known, sees, views, walk_whole}
 use Rattle.mg_no_damage.specs.WriteStanding.{IsStanding, bare, put_standing, sound_standing}
 

@@ -22,8 +22,8 @@ use Rattle.mg_core.specs.declared.parts.Core.{Core}
 use Rattle.mg_core.specs.Cores.{IsCore}
 use Rattle.mg_engine_meaning.specs.KeepLaws.{catalog_shown}
 use Rattle.mg_engine_meaning.specs.Standings.{ShowsIt}
-use Rattle.mg_engine_steps.specs.Known.{IsShown, catalog_is_shown}
-use Rattle.mg_engine_steps.specs.Standing.{Standing}
+use Rattle.mg_engine_steps.specs.standing.Known.{IsShown, catalog_is_shown}
+use Rattle.mg_engine_steps.specs.standing.Standing.{Standing}
 use Rattle.mg_no_damage.specs.CoreReads.{ShowsTable}
 use Rattle.mg_no_damage.specs.Sees.{AreLawful, StandsOn, no_batch}
 use Rattle.mg_no_damage.specs.Sound.{SoundRecordsAreLawful, SoundTablesStand}

@@ -3,7 +3,7 @@ use Rattle.std.proofs.Common.{◌≡◌, ◌≢◌, ◌⊎◌, ◌∙◌, false,
 use Rattle.mg_base.specs.declared.transaction.TxState.{TxState}
 use Rattle.mg_base.specs.declared.transaction.TxState.TheVariants.{Active, Committed, Dead, Limbo}
 use Rattle.mg_core.specs.Obstacles.{IsPassed}
-use Rattle.mg_engine_changes.specs.Looked.{placed_lives}
+use Rattle.mg_engine_changes.specs.rows.Looked.{placed_lives}
 use Rattle.mg_pool.specs.Batch.{Changed}
 use Rattle.mg_pool.specs.declared.fault.PoolFault.TheVariants as faults
 use Rattle.mg_batches.specs.Batches.{FailsOwn, not_changed, not_filled}
@@ -42,8 +42,8 @@ use Rattle.mg_core.specs.Putting.{WhyNotBefore}
 use Rattle.mg_core.specs.Reading.{FailsReading, OnlyReads}
 use Rattle.mg_core.specs.Writing.{FailsKey, FailsRow, HasBegun, HasFound, HasPassed, IsFree, KnowsKey, key_memory, key_null, row_unread, row_wrong}
 use Rattle.mg_no_damage.specs.CoreReads.{BeforesAreRead, KeysAreNamed, RecordsArePassed, RowsAreFound, ShowsTable, TablesArePassed}
-use Rattle.mg_engine_changes.specs.Notes.{HasRead}
-use Rattle.mg_engine_changes.specs.RefusalLaws.{begun_read, found_read, free_read, passed_read}
+use Rattle.mg_engine_changes.specs.memory.Notes.{HasRead}
+use Rattle.mg_engine_changes.specs.rows.RefusalLaws.{begun_read, found_read, free_read, passed_read}
 use Rattle.mg_no_damage.specs.Keyed.{IsKeyed}
 use Rattle.mg_no_damage.specs.CountLaws.{count, count_stands}
 use Rattle.mg_no_damage.specs.Stands.{TellsNone}

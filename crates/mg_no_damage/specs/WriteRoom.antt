@@ -5,9 +5,9 @@ use Rattle.mg_base.specs.Disk.{Meaning}
 use Rattle.mg_base.specs.declared.numbers.TxNo.{TxNo}
 use Rattle.mg_core.specs.Cores.{Continues, IsCore}
 use Rattle.mg_core.specs.declared.parts.Core.{Core}
-use Rattle.mg_engine_changes.specs.BareTables.{given_bare}
-use Rattle.mg_engine_changes.specs.KeptTables.{NotedTablesAreKept, NotedWorksStay, NotesStay}
-use Rattle.mg_engine_changes.specs.NotedLaws.{noted_core, noted_given, table_noted}
+use Rattle.mg_engine_changes.specs.rows.BareTables.{given_bare}
+use Rattle.mg_engine_changes.specs.memory.KeptTables.{NotedTablesAreKept, NotedWorksStay, NotesStay}
+use Rattle.mg_engine_changes.specs.rows.NotedLaws.{noted_core, noted_given, table_noted}
 use Rattle.mg_engine_meaning.specs.Standings.{StandsFor}
 use Rattle.mg_model.specs.History.{Entries}
 use Rattle.mg_model.specs.declared.opening.Opening.{Opening}

@@ -13,14 +13,14 @@ use Rattle.mg_image.specs.Form.{Pages, packed_form}
 use Rattle.mg_image.specs.Records.{Reading}
 use Rattle.mg_image.specs.Sound.{HasHeader, HasInventory, HasTablePages, HasTransactions, IsCellOf, IsSoundBy, IsTableData, IsTablePointer}
 use Rattle.mg_image.specs.Tables.{EachFrom, Has, Layout, LinkChain, Stand, ended, goes}
-use Rattle.mg_image_overlays.specs.DataPages.{ChangesData, all_passes, header_kept, inventory_kept, kind_of, stands_kept, transactions_kept}
+use Rattle.mg_image_overlays.specs.pages.DataPages.{ChangesData, all_passes, header_kept, inventory_kept, kind_of, stands_kept, transactions_kept}
 use Rattle.mg_model.specs.declared.table.Table.{Table}
 use Rattle.mg_pointer.specs.PointerPage.{next_in}
 use Rattle.mg_slots.specs.Changes.{SetsCell}
 use Rattle.mg_slots.specs.DataPage.{cell_of}
 use Rattle.mg_slots.specs.declared.page.TheConstants.{DATA_KIND}
-use Rattle.mg_image_overlays.specs.Growing.{IsTableOf}
-use Rattle.mg_image_overlays.specs.Knowing.{its_pages}
+use Rattle.mg_image_overlays.specs.tables.Growing.{IsTableOf}
+use Rattle.mg_image_overlays.specs.kept.Knowing.{its_pages}
 
 -- where a table stands, without its indexes
 abbrev pub bare : Stand → Stand

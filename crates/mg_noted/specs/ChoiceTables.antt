@@ -9,9 +9,9 @@ use Rattle.mg_base.specs.declared.transaction.TxState.{TxState}
 use Rattle.mg_base.specs.declared.transaction.TxState.TheVariants.{Active, Committed, Dead, Limbo}
 use Rattle.mg_value.specs.declared.value.Value.{Value}
 use Rattle.mg_catalog.specs.TableLaws.{tables_once}
-use Rattle.mg_engine_steps.specs.Choices.{placed, placed_back, read}
-use Rattle.mg_engine_steps.specs.SameRecords.{catalog_stands}
-use Rattle.mg_image_overlays.specs.Growing.{IsTableOf}
+use Rattle.mg_engine_steps.specs.standing.Choices.{placed, placed_back, read}
+use Rattle.mg_engine_steps.specs.tables.SameRecords.{catalog_stands}
+use Rattle.mg_image_overlays.specs.tables.Growing.{IsTableOf}
 use Rattle.mg_image.specs.Catalog.{CatalogNames, IsSameTable, StaysAmong, committed_with}
 use Rattle.mg_image.specs.Form.{Pages, Row, Rows, packed_coding, packed_form}
 use Rattle.mg_image.specs.Held.{AreRows, Shows}
@@ -21,7 +21,7 @@ use Rattle.mg_image.specs.Records.{Reading, key_of, shown}
 use Rattle.mg_image.specs.Sound.{IsSoundBy, facts_by}
 use Rattle.mg_image.specs.Tables.{EachStand, Layout, Stand, stands_of}
 use Rattle.mg_image.specs.declared.entry.Entry.{Entry}
-use Rattle.mg_image_overlays.specs.TableOwners.{IsOneOf, one_each}
+use Rattle.mg_image_overlays.specs.tables.TableOwners.{IsOneOf, one_each}
 use Rattle.mg_model.specs.Answers.{is_committed}
 use Rattle.mg_model.specs.Catalog.{catalog_name, table_key}
 use Rattle.mg_model.specs.CatalogRules.{AreTables, EachTable, HasTableOf, IsTable}
@@ -29,7 +29,7 @@ use Rattle.mg_model.specs.Legal.{is_limbo}
 use Rattle.mg_model.specs.Openings.{everyone}
 use Rattle.mg_model.specs.declared.table.Table.{Table}
 use Rattle.mg_overlays.specs.Overlays.{left_by, left_state}
-use Rattle.mg_image_overlays.specs.OneTable.{one_standing, one_table, stands_in}
+use Rattle.mg_image_overlays.specs.tables.OneTable.{one_standing, one_table, stands_in}
 
 -- in two readings that show the same of the catalog's records, rows are the same
 rows_alike : (f g : Facts) (c d : ℕ → Bool) (r s : Reading) (table : Table) (rows more : Rows)

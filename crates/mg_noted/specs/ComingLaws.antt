@@ -10,7 +10,7 @@ use Rattle.mg_image.specs.Records.{Cells, Reading, key_of, record_key}
 use Rattle.mg_image.specs.Sound.{IsSoundBy, facts_by}
 use Rattle.mg_image.specs.Tables.{Layout}
 use Rattle.mg_image.specs.declared.entry.Entry.{Entry}
-use Rattle.mg_image_overlays.specs.OneLayout.{StandsOneWay}
+use Rattle.mg_image_overlays.specs.tables.OneLayout.{StandsOneWay}
 use Rattle.mg_model.specs.declared.table.Table.{Table}
 use Rattle.mg_sortkey.specs.KeyBytes.{key_bytes}
 use Rattle.mg_value.specs.declared.value.Value.{Value}

@@ -9,13 +9,13 @@ use Rattle.mg_image.specs.RecordRules.{table_in}
 use Rattle.mg_image.specs.Records.{Reading}
 use Rattle.mg_image.specs.Sound.{IsSoundBy, facts_by}
 use Rattle.mg_image.specs.Tables.{Layout}
-use Rattle.mg_image_overlays.specs.Growing.{IsTableOf}
-use Rattle.mg_image_overlays.specs.OneLayout.{StandsOneWay}
-use Rattle.mg_image_overlays.specs.OneTable.{table_at_stands}
+use Rattle.mg_image_overlays.specs.tables.Growing.{IsTableOf}
+use Rattle.mg_image_overlays.specs.tables.OneLayout.{StandsOneWay}
+use Rattle.mg_image_overlays.specs.tables.OneTable.{table_at_stands}
 use Rattle.mg_model.specs.Openings.{everyone}
 use Rattle.mg_model.specs.declared.table.Table.{Table}
 use Rattle.mg_overlays.specs.Overlays.{left_state}
-use Rattle.mg_engine_steps.specs.Choices.{placed_back, read}
+use Rattle.mg_engine_steps.specs.standing.Choices.{placed_back, read}
 use Rattle.mg_noted.specs.Coming.{AreFewer, ComeFrom, NoNew}
 use Rattle.mg_noted.specs.ComingLaws.{left_come, noted_by, noted_stay}
 use Rattle.mg_noted.specs.Noted.{HasNoted}

@@ -13,8 +13,8 @@ use Rattle.mg_image.specs.RecordRules.{AreRecords, Facts, columns_for, table_in}
 use Rattle.mg_image.specs.Records.{Reading, cells_of}
 use Rattle.mg_image.specs.Sound.{HasTablePages, IsSoundBy, facts_by}
 use Rattle.mg_image.specs.Tables.{Has, Layout, Stand}
-use Rattle.mg_image_overlays.specs.Growing.{IsTableOf}
-use Rattle.mg_image_overlays.specs.Knowing.{its_pages, of_table}
+use Rattle.mg_image_overlays.specs.tables.Growing.{IsTableOf}
+use Rattle.mg_image_overlays.specs.kept.Knowing.{its_pages, of_table}
 use Rattle.mg_model.specs.declared.table.Table.{Table}
 use Rattle.mg_rowcode.specs.Faults.{DecodesTo}
 use Rattle.mg_sortkey.specs.KeyBytes.{key_bytes}

@@ -15,9 +15,9 @@ use Rattle.mg_image.specs.Records.{Chain, Reading, cells_of, goes, newest_of}
 use Rattle.mg_image.specs.Sound.{IsSoundBy, facts_by}
 use Rattle.mg_image.specs.Tables.{Has, Layout}
 use Rattle.mg_image.specs.declared.entry.Entry.{Entry}
-use Rattle.mg_image_overlays.specs.Growing.{IsTableOf}
-use Rattle.mg_image_overlays.specs.Knowing.{its_pages, of_table}
-use Rattle.mg_image_overlays.specs.OneTable.{its_data, table_at_stands}
+use Rattle.mg_image_overlays.specs.tables.Growing.{IsTableOf}
+use Rattle.mg_image_overlays.specs.kept.Knowing.{its_pages, of_table}
+use Rattle.mg_image_overlays.specs.tables.OneTable.{its_data, table_at_stands}
 use Rattle.mg_model.specs.declared.table.Table.{Table}
 use Rattle.mg_noting.specs.Building.{IsUnderItsKey}
 use Rattle.mg_noting.specs.Making.{IsBuiltOf}

@@ -9,7 +9,7 @@ use Rattle.mg_image.specs.Records.{Reading, cells_of}
 use Rattle.mg_image.specs.Sound.{IsSoundBy}
 use Rattle.mg_image.specs.Tables.{Layout}
 use Rattle.mg_image.specs.declared.entry.Entry.{Entry}
-use Rattle.mg_image_overlays.specs.Growing.{IsTableOf}
+use Rattle.mg_image_overlays.specs.tables.Growing.{IsTableOf}
 use Rattle.mg_model.specs.Changes.{Cells}
 use Rattle.mg_model.specs.History.{Entries, Entry as Event}
 use Rattle.mg_model.specs.Openings.{everyone}
@@ -21,8 +21,8 @@ use Rattle.mg_snap.specs.Live.{State}
 use Rattle.mg_value.specs.declared.value.Value.{Value}
 use Rattle.mg_seek.specs.Speaking.{IsSpeaker}
 use Rattle.mg_seek.specs.TableRecords.{AreTableRecords, IsAmong}
-use Rattle.mg_engine_steps.specs.Standing.{ShowsHistory, Standing}
-use Rattle.mg_engine_steps.specs.Writes.{WritesVersion}
+use Rattle.mg_engine_steps.specs.standing.Standing.{ShowsHistory, Standing}
+use Rattle.mg_engine_steps.specs.writes.Writes.{WritesVersion}
 use Rattle.mg_noted.specs.Coming.{AreFewer}
 use Rattle.mg_noted.specs.Noted.{HasNoted, IsNoted}
 use Rattle.mg_noted.specs.Speaking.{FoundAmong, IsBuilt}

@@ -11,7 +11,7 @@ use Rattle.mg_image.specs.RecordRules.{Facts}
 use Rattle.mg_image.specs.Records.{cells_of, record_key}
 use Rattle.mg_image.specs.Sound.{facts_by}
 use Rattle.mg_image.specs.declared.entry.Entry.{Entry}
-use Rattle.mg_image_overlays.specs.OneLayout.{StandsOneWay}
+use Rattle.mg_image_overlays.specs.tables.OneLayout.{StandsOneWay}
 use Rattle.mg_model.specs.Changes.{Cells}
 use Rattle.mg_model.specs.History.{Entries, Entry as Event}
 use Rattle.mg_model.specs.Openings.{everyone}
@@ -20,8 +20,8 @@ use Rattle.mg_model.specs.declared.table.Table.{Table}
 use Rattle.mg_overlays.specs.Overlays.{left_by, left_state}
 use Rattle.mg_sortkey.specs.KeyBytes.{key_bytes}
 use Rattle.mg_value.specs.declared.value.Value.{Value}
-use Rattle.mg_engine_steps.specs.Standing.{ShowsHistory, Standing}
-use Rattle.mg_engine_steps.specs.Writes.{WritesVersion}
+use Rattle.mg_engine_steps.specs.standing.Standing.{ShowsHistory, Standing}
+use Rattle.mg_engine_steps.specs.writes.Writes.{WritesVersion}
 use Rattle.mg_noted.specs.ComingLaws.{noted_by, written_noted}
 use Rattle.mg_noted.specs.Noted.{AreNoted, HasNoted}
 

@@ -6,7 +6,7 @@ use Rattle.mg_image.specs.Indexes.{AreChildren, AreNodes, AreTrees, EachPage, Fi
 use Rattle.mg_image.specs.Inventory.{is_used}
 use Rattle.mg_image.specs.KeptPageLaws.{link_chain_kept}
 use Rattle.mg_image.specs.Tables.{Has, LinkChain, ended, goes, tree_pages}
-use Rattle.mg_image_overlays.specs.Growth.{has_back, has_either, has_front, wanted_still}
+use Rattle.mg_image_overlays.specs.pages.Growth.{has_back, has_either, has_front, wanted_still}
 use Rattle.mg_model.specs.declared.table.Index.{Index}
 use Rattle.mg_node.specs.NodePage.{count_in, entries_of, first_entries, has_high, high_of, level_in, low_of, node_checks, right_in}
 use Rattle.mg_node.specs.declared.entry.Entry.{Entry}

@@ -14,7 +14,7 @@ use Rattle.mg_image.specs.RecordRules.{AreRecords, Facts, table_in}
 use Rattle.mg_image.specs.Records.{Reading, cells_of, record_key, writer}
 use Rattle.mg_image.specs.Tables.{Has}
 use Rattle.mg_image.specs.declared.entry.Entry.{Entry}
-use Rattle.mg_image_overlays.specs.Fronts.{is_dead, living}
+use Rattle.mg_image_overlays.specs.records.Fronts.{is_dead, living}
 use Rattle.mg_model.specs.Answers.{is_active, obstacle, told}
 use Rattle.mg_model.specs.Changes.{row_at, same_row}
 use Rattle.mg_model.specs.History.{Entries}

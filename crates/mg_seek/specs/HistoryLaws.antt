@@ -15,7 +15,7 @@ use Rattle.mg_image.specs.ReadingLaws.{RowsAreOne}
 use Rattle.mg_image.specs.RecordRules.{Each, EachBack, Facts}
 use Rattle.mg_image.specs.Records.{Reading, shown, writer}
 use Rattle.mg_image.specs.declared.entry.Entry.{Entry}
-use Rattle.mg_image_overlays.specs.Fronts.{is_dead, living}
+use Rattle.mg_image_overlays.specs.records.Fronts.{is_dead, living}
 use Rattle.mg_model.specs.Answers.{can_hinder, is_active, is_committed, is_open, told}
 use Rattle.mg_model.specs.History.{Entries}
 use Rattle.mg_model.specs.Machine.{state_of}

@@ -12,7 +12,7 @@ use Rattle.mg_chain.specs.Writing.{SlotIsReached, TakesOut}
 use Rattle.mg_ties.specs.FreeTies.{back_cells, back_has, back_page, frees_cells, frees_page, frees_within, version_apart}
 use Rattle.mg_ties.specs.Newest.{newest_found, newest_placed}
 use Rattle.mg_ties.specs.Rows.{ForEach, ordered_page, reached_entered, table_of_page, walk_four, within_orders}
-use Rattle.mg_image_overlays.specs.Growing.{IsTableOf}
+use Rattle.mg_image_overlays.specs.tables.Growing.{IsTableOf}
 use Rattle.mg_heap.specs.Reach.{IsReached}
 use Rattle.mg_ties.specs.Batches.{IsWithin, lists_later, lists_sooner, viewed_same, within_self}
 use Rattle.mg_ties.specs.CellTies.{HasLawfulCells, cells_still, lawful_cells, owner_told}
@@ -21,23 +21,23 @@ use Rattle.mg_image.specs.ReadingLaws.{RowsAreOne}
 use Rattle.mg_image.specs.Records.{Changes, Reading, cells_of}
 use Rattle.mg_image.specs.Sound.{IsSoundBy, facts_by}
 use Rattle.mg_image.specs.Tables.{Has, Layout, stands_of, table_at}
-use Rattle.mg_image_overlays.specs.DataPages.{ChangesData}
-use Rattle.mg_image_overlays.specs.Kinds.{HasNoSequences}
-use Rattle.mg_image_overlays.specs.CommitLaws.{LeavesOthers}
-use Rattle.mg_image_overlays.specs.KeptImages.{IsKept, keeping}
-use Rattle.mg_image_overlays.specs.Reach.{IsEntered}
+use Rattle.mg_image_overlays.specs.pages.DataPages.{ChangesData}
+use Rattle.mg_image_overlays.specs.pages.Kinds.{HasNoSequences}
+use Rattle.mg_image_overlays.specs.transactions.CommitLaws.{LeavesOthers}
+use Rattle.mg_image_overlays.specs.kept.KeptImages.{IsKept, keeping}
+use Rattle.mg_image_overlays.specs.pages.Reach.{IsEntered}
 use Rattle.mg_model.specs.History.{Entries}
 use Rattle.mg_model.specs.declared.opening.Opening.{Opening}
 use Rattle.mg_model.specs.declared.table.Table.{Table}
 use Rattle.mg_overlays.specs.BatchLaws.{good_of_pool}
 use Rattle.mg_overlays.specs.Overlays.{left_state}
-use Rattle.mg_image_overlays.specs.BackEvery.{TakesBackRow}
-use Rattle.mg_image_overlays.specs.BackPart.{OrdersTakeOut, TakesOutPages}
-use Rattle.mg_image_overlays.specs.OwnVersion.{FindsNewest}
-use Rattle.mg_image_overlays.specs.TakeOut.{back_cell}
-use Rattle.mg_image_overlays.specs.BackFor.{take_back_for_every}
-use Rattle.mg_image_overlays.specs.NotThere.{HasNoData, IsNotThere}
-use Rattle.mg_image_overlays.specs.Whose.{IsTableFor, alone, alone_is, maker_has, page_beyond}
+use Rattle.mg_image_overlays.specs.records.BackEvery.{TakesBackRow}
+use Rattle.mg_image_overlays.specs.records.BackPart.{OrdersTakeOut, TakesOutPages}
+use Rattle.mg_image_overlays.specs.records.OwnVersion.{FindsNewest}
+use Rattle.mg_image_overlays.specs.records.TakeOut.{back_cell}
+use Rattle.mg_image_overlays.specs.tables.BackFor.{take_back_for_every}
+use Rattle.mg_image_overlays.specs.names.NotThere.{HasNoData, IsNotThere}
+use Rattle.mg_image_overlays.specs.names.Whose.{IsTableFor, alone, alone_is, maker_has, page_beyond}
 use Rattle.mg_pool.specs.Batch.{Changed, content_in, lists}
 use Rattle.mg_pool.specs.Pool.{shown}
 use Rattle.mg_pool.specs.declared.pool.Pool.{Pool}

@@ -10,22 +10,22 @@ use Rattle.mg_ties.specs.Filling.{Fills, NewRow, fills_as}
 use Rattle.mg_ties.specs.FirstPages.{left_within}
 use Rattle.mg_ties.specs.PushTies.{written}
 use Rattle.mg_ties.specs.Rows.{ForEach}
-use Rattle.mg_image_overlays.specs.Growing.{MayBeWritten}
+use Rattle.mg_image_overlays.specs.tables.Growing.{MayBeWritten}
 use Rattle.mg_ties.specs.Batches.{within_self}
 use Rattle.mg_image.specs.Form.{Form, Pages}
 use Rattle.mg_image.specs.ReadingLaws.{RowsAreOne}
 use Rattle.mg_image.specs.Records.{key_of}
 use Rattle.mg_image.specs.Sound.{facts_by}
-use Rattle.mg_image_overlays.specs.Kinds.{HasNoSequences}
-use Rattle.mg_image_overlays.specs.CommitLaws.{LeavesOthers}
-use Rattle.mg_image_overlays.specs.EndLaws.{longer_for}
-use Rattle.mg_image_overlays.specs.KeptImages.{IsKept}
+use Rattle.mg_image_overlays.specs.pages.Kinds.{HasNoSequences}
+use Rattle.mg_image_overlays.specs.transactions.CommitLaws.{LeavesOthers}
+use Rattle.mg_image_overlays.specs.transactions.EndLaws.{longer_for}
+use Rattle.mg_image_overlays.specs.kept.KeptImages.{IsKept}
 use Rattle.mg_model.specs.History.{Entries}
 use Rattle.mg_model.specs.declared.opening.Opening.{Opening}
-use Rattle.mg_image_overlays.specs.Making.{MakesNamed, make_every}
+use Rattle.mg_image_overlays.specs.names.Making.{MakesNamed, make_every}
 use Rattle.mg_overlays.specs.Overlays.{LaysBatch, laid, left_state, without}
 use Rattle.mg_overlays.specs.Views.{first_view, last_view}
-use Rattle.mg_image_overlays.specs.Creating.{without_raises}
+use Rattle.mg_image_overlays.specs.names.Creating.{without_raises}
 use Rattle.mg_pool.specs.Batch.{Changed, content_in, lists}
 use Rattle.mg_pool.specs.Pool.{shown}
 use Rattle.mg_pool.specs.declared.pool.Pool.{Pool}

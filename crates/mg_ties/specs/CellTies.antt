@@ -13,8 +13,8 @@ use Rattle.mg_image.specs.Form.{Form, Pages}
 use Rattle.mg_image.specs.Records.{Changes, Reading, cell_spelled, cells_of, slot_cell}
 use Rattle.mg_image.specs.Sound.{HasTablePages, IsCellOf, IsSoundBy, IsTableData}
 use Rattle.mg_image.specs.Tables.{EachFrom, EachStand, Has, Layout, Stand, has, stands_of, table_at}
-use Rattle.mg_image_overlays.specs.DataPages.{ChangesData, all_passes, kind_of}
-use Rattle.mg_image_overlays.specs.Reach.{has_it}
+use Rattle.mg_image_overlays.specs.pages.DataPages.{ChangesData, all_passes, kind_of}
+use Rattle.mg_image_overlays.specs.pages.Reach.{has_it}
 use Rattle.mg_model.specs.declared.table.Table.{Table}
 use Rattle.mg_slots.specs.Changes.{SetsCell}
 use Rattle.mg_slots.specs.DataPage.{cell_of}

@@ -7,7 +7,7 @@ use Rattle.mg_base.specs.Image.{Image}
 use Rattle.mg_base.specs.declared.transaction.TxState.{TxState}
 use Rattle.mg_careful.specs.CarefulWrite.{Cache, PageSet}
 use Rattle.mg_image.specs.Form.{Form}
-use Rattle.mg_image_overlays.specs.KeptImages.{keeping}
+use Rattle.mg_image_overlays.specs.kept.KeptImages.{keeping}
 use Rattle.mg_model.specs.declared.opening.Opening.{Opening}
 use Rattle.mg_model.specs.History.{Entries}
 use Rattle.mg_overlays.specs.Overlays.{ChangesCache, EveryOverlay, KeepsNeeds, NeedsAllDirty}

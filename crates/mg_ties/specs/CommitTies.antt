@@ -9,19 +9,19 @@ use Rattle.mg_base.specs.Fields.{byte}
 use Rattle.mg_base.specs.Image.{Image}
 use Rattle.mg_base.specs.declared.transaction.TxState.{TxState}
 use Rattle.mg_base.specs.declared.transaction.TxState.TheVariants.{Active, Committed}
-use Rattle.mg_image_overlays.specs.Midway.{EveryMidway, IsDrawnPlace}
-use Rattle.mg_image_overlays.specs.MidwayLaws.{commit_changes_every, midway_written}
+use Rattle.mg_image_overlays.specs.transactions.Midway.{EveryMidway, IsDrawnPlace}
+use Rattle.mg_image_overlays.specs.transactions.MidwayLaws.{commit_changes_every, midway_written}
 use Rattle.mg_image.specs.Form.{Form, Pages}
 use Rattle.mg_image.specs.Inventory.{last_sequence, next_of, tip_page}
 use Rattle.mg_image.specs.Reached.{IsAsWanted, tips_below, tips_of}
 use Rattle.mg_image.specs.Tables.{Has, IsOnce, pages_of, stands_of}
-use Rattle.mg_image_overlays.specs.Bits.{ChangesTip}
-use Rattle.mg_image_overlays.specs.DataPages.{kind_of}
-use Rattle.mg_image_overlays.specs.Kinds.{HasNoSequences}
-use Rattle.mg_image_overlays.specs.Rest.{div_grows}
-use Rattle.mg_image_overlays.specs.CommitLaws.{BringsChanges}
-use Rattle.mg_image_overlays.specs.KeptImages.{IsKept, keeping}
-use Rattle.mg_image_overlays.specs.Reach.{once_front}
+use Rattle.mg_image_overlays.specs.transactions.Bits.{ChangesTip}
+use Rattle.mg_image_overlays.specs.pages.DataPages.{kind_of}
+use Rattle.mg_image_overlays.specs.pages.Kinds.{HasNoSequences}
+use Rattle.mg_image_overlays.specs.kept.Rest.{div_grows}
+use Rattle.mg_image_overlays.specs.transactions.CommitLaws.{BringsChanges}
+use Rattle.mg_image_overlays.specs.kept.KeptImages.{IsKept, keeping}
+use Rattle.mg_image_overlays.specs.pages.Reach.{once_front}
 use Rattle.mg_model.specs.declared.opening.Opening.{Opening}
 use Rattle.mg_model.specs.History.{Entries, Entry as Event}
 use Rattle.mg_overlays.specs.BatchLaws.{good_of_pool}

@@ -16,13 +16,13 @@ use Rattle.mg_header.specs.declared.header.Header.{Header}
 use Rattle.mg_image.specs.Form.{Form, Pages}
 use Rattle.mg_image.specs.Inventory.{header_of, inventory_page, is_used, last_sequence, next_of, oldest_active_of, oldest_of, tip_before, tip_page}
 use Rattle.mg_image.specs.Sound.{IsUndrawn}
-use Rattle.mg_image_overlays.specs.Kinds.{HasNoSequences}
-use Rattle.mg_image_overlays.specs.KeptImages.{IsKept, keeping}
+use Rattle.mg_image_overlays.specs.pages.Kinds.{HasNoSequences}
+use Rattle.mg_image_overlays.specs.kept.KeptImages.{IsKept, keeping}
 use Rattle.mg_model.specs.declared.opening.Opening.{Opening}
 use Rattle.mg_model.specs.History.{Entries}
 use Rattle.mg_overlays.specs.BatchLaws.{good_of_pool}
 use Rattle.mg_overlays.specs.Overlays.{left_by, left_state}
-use Rattle.mg_image_overlays.specs.Draw.{DrawsNumber, draw_every}
+use Rattle.mg_image_overlays.specs.pages.Draw.{DrawsNumber, draw_every}
 use Rattle.mg_pip.specs.PipPage.{bits, used_in}
 use Rattle.mg_pool.specs.Batch.{Changed, content_in, lists}
 use Rattle.mg_pool.specs.Pool.{shown}
@@ -33,8 +33,8 @@ use Rattle.mg_space.specs.TakingLaws.{page_sizes, takes_bit}
 use Rattle.mg_space.specs.View.{Tells, viewed}
 use Rattle.mg_ties.specs.Changed.{BatchIsChanged, KeptIn, cache_over, changed_batches_are, needs_in}
 use Rattle.mg_ties.specs.Occupied.{taken_are_occupied}
-use Rattle.mg_image_overlays.specs.DrawPage.{DrawsPage, draw_page_every}
-use Rattle.mg_image_overlays.specs.TakePart.{OccupiesPage}
+use Rattle.mg_image_overlays.specs.pages.DrawPage.{DrawsPage, draw_page_every}
+use Rattle.mg_image_overlays.specs.pages.TakePart.{OccupiesPage}
 use Rattle.mg_tip.specs.TipPage.{new_tip_page, places, prev_in, state_in, tip_checks}
 use Rattle.mg_tip.specs.TipPageLaws.{length-new_tip_page, new_page_active, new_page_passes, new_page_prev}
 use Rattle.mg_txlist.specs.Drawing.{AddsNumber, AddsPage, DrawsIn, DrawsOn, RaisesHead, last_orders, on_last, on_new, raised_header, tip_orders}

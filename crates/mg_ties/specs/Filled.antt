@@ -16,9 +16,9 @@ use Rattle.mg_chain.specs.Writing.{GivesSpot, MakesRecord, link_to}
 use Rattle.mg_ties.specs.FirstPages.{MakesPages, left_within, made_pages}
 use Rattle.mg_ties.specs.PushTies.{written}
 use Rattle.mg_ties.specs.Rows.{off_header}
-use Rattle.mg_image_overlays.specs.Growing.{EndsAt, HasGrown, IsTableOf, MayBeWritten}
-use Rattle.mg_image_overlays.specs.GrowingLaws.{StandsTo, grown_more, grows_part, grows_pool, table_of_end, taken_sound}
-use Rattle.mg_image_overlays.specs.Knowing.{entered_of, lawful_there, pointers_keep, put_still}
+use Rattle.mg_image_overlays.specs.tables.Growing.{EndsAt, HasGrown, IsTableOf, MayBeWritten}
+use Rattle.mg_image_overlays.specs.tables.GrowingLaws.{StandsTo, grown_more, grows_part, grows_pool, table_of_end, taken_sound}
+use Rattle.mg_image_overlays.specs.kept.Knowing.{entered_of, lawful_there, pointers_keep, put_still}
 use Rattle.mg_header.specs.HeaderPage.{header_in}
 use Rattle.mg_heap.specs.Growth.{AddsOrders}
 use Rattle.mg_heap.specs.Reading.{owner_in}
@@ -32,36 +32,36 @@ use Rattle.mg_image.specs.Inventory.{inventory_page}
 use Rattle.mg_image.specs.ReadingLaws.{RowsAreOne}
 use Rattle.mg_image.specs.RecordRules.{AreRecords, Facts}
 use Rattle.mg_image.specs.StepLaws.{put_reading}
-use Rattle.mg_image_overlays.specs.DataSound.{data_sound, facts_same}
-use Rattle.mg_image_overlays.specs.Push.{free_empty, free_unread}
-use Rattle.mg_image_overlays.specs.QuietVersions.{AreQuiet, indexed_still, owns_still, shows_with}
-use Rattle.mg_image_overlays.specs.Rest.{LeavesRest}
+use Rattle.mg_image_overlays.specs.pages.DataSound.{data_sound, facts_same}
+use Rattle.mg_image_overlays.specs.records.Push.{free_empty, free_unread}
+use Rattle.mg_image_overlays.specs.records.QuietVersions.{AreQuiet, indexed_still, owns_still, shows_with}
+use Rattle.mg_image_overlays.specs.kept.Rest.{LeavesRest}
 use Rattle.mg_image.specs.Records.{Reading, cells_of, key_of, slot_cell}
 use Rattle.mg_image.specs.Sound.{IsSoundBy, facts_by}
 use Rattle.mg_image.specs.Tables.{Layout, stands_of, table_at}
 use Rattle.mg_image.specs.declared.entry.Entry.{Entry}
-use Rattle.mg_image_overlays.specs.Kinds.{HasNoSequences}
-use Rattle.mg_image_overlays.specs.Trees.{data_leaves, trees_stay}
-use Rattle.mg_image_overlays.specs.KeptImages.{IsKept}
+use Rattle.mg_image_overlays.specs.pages.Kinds.{HasNoSequences}
+use Rattle.mg_image_overlays.specs.pages.Trees.{data_leaves, trees_stay}
+use Rattle.mg_image_overlays.specs.kept.KeptImages.{IsKept}
 use Rattle.mg_model.specs.History.{Entries}
 use Rattle.mg_model.specs.declared.opening.Opening.{Opening}
 use Rattle.mg_model.specs.declared.table.Table.{Table}
-use Rattle.mg_image_overlays.specs.OneLayout.{sound_once}
+use Rattle.mg_image_overlays.specs.tables.OneLayout.{sound_once}
 use Rattle.mg_overlays.specs.Overlays.{LaysBatch}
 use Rattle.mg_overlays.specs.Views.{ordered_same, partly}
-use Rattle.mg_image_overlays.specs.OutSteps.{everywhere}
+use Rattle.mg_image_overlays.specs.tables.OutSteps.{everywhere}
 use Rattle.mg_pool.specs.Batch.{Changed}
 use Rattle.mg_pool.specs.Pool.{shown}
 use Rattle.mg_pool.specs.declared.pool.Pool.{Pool}
-use Rattle.mg_image_overlays.specs.AddPart.{AddsOver, FindsPlace, add_living, add_sound, add_views}
+use Rattle.mg_image_overlays.specs.records.AddPart.{AddsOver, FindsPlace, add_living, add_sound, add_views}
 use Rattle.mg_slots.specs.DataPage.{cell_of}
 use Rattle.mg_slots.specs.RoomLaws.{least_free_is_free}
 use Rattle.mg_space.specs.Taking.{IsGeometry, region_of}
 use Rattle.mg_space.specs.View.{viewed}
 use Rattle.mg_space.specs.ViewLaws.{viewed_else, viewed_here}
 use Rattle.mg_ties.specs.Occupied.{taken_are_occupied}
-use Rattle.mg_image_overlays.specs.PointerPage.{data_five}
-use Rattle.mg_image_overlays.specs.TakePart.{OccupiesPage, take_views}
+use Rattle.mg_image_overlays.specs.pages.PointerPage.{data_five}
+use Rattle.mg_image_overlays.specs.pages.TakePart.{OccupiesPage, take_views}
 use Rattle.mg_value.specs.declared.value.Value.{Value}
 use Rattle.mg_version.specs.declared.cell.TheConstants.{ANCHOR_LEN}
 use Rattle.mg_version.specs.declared.cell.Version.{Version}

@@ -9,7 +9,7 @@ use Rattle.mg_chain.specs.Orders.{before_page, first_orders, push_orders, slot_o
 use Rattle.mg_chain.specs.Writing.{MakesRecord, leading_to, link_to}
 use Rattle.mg_ties.specs.PutTies.{PutsGiven, apart, free, grows, header_off, put_cells, put_page, slot_put, turn_cells, turn_page, walk_ordered}
 use Rattle.mg_ties.specs.Rows.{ordered_page, within_orders, within_put}
-use Rattle.mg_image_overlays.specs.Growing.{Grows, TableEnd}
+use Rattle.mg_image_overlays.specs.tables.Growing.{Grows, TableEnd}
 use Rattle.mg_heap.specs.Apart.{need_with_anchor}
 use Rattle.mg_heap.specs.Reach.{IsReached}
 use Rattle.mg_ties.specs.Batches.{IsWithin, has_here, lists_later, lists_sooner, viewed_same}
@@ -19,12 +19,12 @@ use Rattle.mg_image.specs.ReadingLaws.{RowsAreOne}
 use Rattle.mg_image.specs.Records.{Reading, cells_of}
 use Rattle.mg_image.specs.Sound.{IsSoundBy}
 use Rattle.mg_image.specs.Tables.{Has, Layout, stands_of, table_at}
-use Rattle.mg_image_overlays.specs.Kinds.{HasNoSequences}
+use Rattle.mg_image_overlays.specs.pages.Kinds.{HasNoSequences}
 use Rattle.mg_model.specs.declared.table.Table.{Table}
 use Rattle.mg_pool.specs.Batch.{Changed, content_in, lists}
 use Rattle.mg_pool.specs.Pool.{shown}
 use Rattle.mg_pool.specs.declared.pool.Pool.{Pool}
-use Rattle.mg_image_overlays.specs.AddPart.{AddsPages, OrdersAdd}
+use Rattle.mg_image_overlays.specs.records.AddPart.{AddsPages, OrdersAdd}
 use Rattle.mg_space.specs.Taking.{IsGeometry}
 use Rattle.mg_space.specs.View.{viewed}
 use Rattle.mg_version.specs.declared.cell.Link.{Link}

@@ -9,7 +9,7 @@ use Rattle.mg_chain.specs.Writing.{MakesRecord, leading_to, link_to}
 use Rattle.mg_ties.specs.FirstPages.{MakesPages, left_within, made_pages}
 use Rattle.mg_ties.specs.PushTies.{written}
 use Rattle.mg_ties.specs.Rows.{ForEach, table_of_page}
-use Rattle.mg_image_overlays.specs.Growing.{IsTableOf, MayBeWritten}
+use Rattle.mg_image_overlays.specs.tables.Growing.{IsTableOf, MayBeWritten}
 use Rattle.mg_heap.specs.Apart.{need_with_anchor}
 use Rattle.mg_ties.specs.Batches.{within_self}
 use Rattle.mg_ties.specs.OutTies.{given_beyond, last_beyond}
@@ -20,23 +20,23 @@ use Rattle.mg_image.specs.Records.{Reading, cells_of, key_of}
 use Rattle.mg_image.specs.Sound.{IsSoundBy, facts_by}
 use Rattle.mg_image.specs.Tables.{Has, Layout, stands_of, table_at}
 use Rattle.mg_image.specs.declared.entry.Entry.{Entry}
-use Rattle.mg_image_overlays.specs.Kinds.{HasNoSequences}
-use Rattle.mg_image_overlays.specs.CommitLaws.{LeavesOthers}
-use Rattle.mg_image_overlays.specs.KeptImages.{IsKept, keeping}
+use Rattle.mg_image_overlays.specs.pages.Kinds.{HasNoSequences}
+use Rattle.mg_image_overlays.specs.transactions.CommitLaws.{LeavesOthers}
+use Rattle.mg_image_overlays.specs.kept.KeptImages.{IsKept, keeping}
 use Rattle.mg_model.specs.History.{Entries}
 use Rattle.mg_model.specs.declared.opening.Opening.{Opening}
 use Rattle.mg_model.specs.declared.table.Table.{Table}
 use Rattle.mg_overlays.specs.BatchLaws.{good_of_pool}
 use Rattle.mg_overlays.specs.Overlays.{left_state}
-use Rattle.mg_image_overlays.specs.FirstFor.{AddThere, add_for_every}
-use Rattle.mg_image_overlays.specs.NotThere.{HasNoneOf, IsNotThere}
-use Rattle.mg_image_overlays.specs.Whose.{IsTableFor, alone, alone_is, maker_has, page_beyond}
+use Rattle.mg_image_overlays.specs.tables.FirstFor.{AddThere, add_for_every}
+use Rattle.mg_image_overlays.specs.names.NotThere.{HasNoneOf, IsNotThere}
+use Rattle.mg_image_overlays.specs.names.Whose.{IsTableFor, alone, alone_is, maker_has, page_beyond}
 use Rattle.mg_pool.specs.Batch.{Changed, content_in, lists}
 use Rattle.mg_pool.specs.Pool.{shown}
 use Rattle.mg_pool.specs.declared.pool.Pool.{Pool}
 use Rattle.mg_pool_overlays.specs.Needs.{Asked, Sessions}
-use Rattle.mg_image_overlays.specs.AddPart.{AddsPages}
-use Rattle.mg_image_overlays.specs.OwnWrites.{WritesRow}
+use Rattle.mg_image_overlays.specs.records.AddPart.{AddsPages}
+use Rattle.mg_image_overlays.specs.records.OwnWrites.{WritesRow}
 use Rattle.mg_space.specs.View.{viewed}
 use Rattle.mg_ties.specs.Changed.{BatchIsChanged, ChangesFresh, KeptIn, cache_over, changed_fresh, fresh, needs_all, needs_in}
 use Rattle.mg_version.specs.declared.cell.Version.{Version}

@@ -6,8 +6,8 @@ use Rattle.mg_base.specs.declared.numbers.RecId.{RecId}
 use Rattle.mg_careful.specs.Precedence.{Orders}
 use Rattle.mg_image.specs.Form.{Pages}
 use Rattle.mg_image.specs.Records.{Changes, cell_spelled, cells_of, slot_cell}
-use Rattle.mg_image_overlays.specs.DataPages.{ChangesData}
-use Rattle.mg_image_overlays.specs.TakeOut.{back_cell}
+use Rattle.mg_image_overlays.specs.pages.DataPages.{ChangesData}
+use Rattle.mg_image_overlays.specs.records.TakeOut.{back_cell}
 use Rattle.mg_pool.specs.Batch.{Changed}
 use Rattle.mg_pool.specs.declared.pool.Pool.{Pool}
 use Rattle.mg_slots.specs.Changes.{SetsCell}

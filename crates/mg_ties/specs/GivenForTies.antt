@@ -5,9 +5,9 @@ use Rattle.mg_base.specs.Image.{Image}
 use Rattle.mg_base.specs.declared.numbers.PageNo.{PageNo}
 use Rattle.mg_base.specs.declared.transaction.TxState.{TxState}
 use Rattle.mg_base.specs.declared.transaction.TxState.TheVariants.{Active}
-use Rattle.mg_image_overlays.specs.Growing.{IsTableOf}
-use Rattle.mg_image_overlays.specs.GrowingLaws.{grows_pool, table_of_end}
-use Rattle.mg_image_overlays.specs.Knowing.{entered_of}
+use Rattle.mg_image_overlays.specs.tables.Growing.{IsTableOf}
+use Rattle.mg_image_overlays.specs.tables.GrowingLaws.{grows_pool, table_of_end}
+use Rattle.mg_image_overlays.specs.kept.Knowing.{entered_of}
 use Rattle.mg_heap.specs.Room.{GivesRoom}
 use Rattle.mg_ties.specs.Batches.{within_self}
 use Rattle.mg_ties.specs.GivenTies.{given_entered}
@@ -18,18 +18,18 @@ use Rattle.mg_image.specs.ReadingLaws.{RowsAreOne}
 use Rattle.mg_image.specs.Records.{Reading}
 use Rattle.mg_image.specs.Sound.{IsSoundBy}
 use Rattle.mg_image.specs.Tables.{Layout, stands_of, table_at}
-use Rattle.mg_image_overlays.specs.Kinds.{HasNoSequences}
-use Rattle.mg_image_overlays.specs.Trees.{trees_stay}
-use Rattle.mg_image_overlays.specs.KeptImages.{IsKept, keeping}
+use Rattle.mg_image_overlays.specs.pages.Kinds.{HasNoSequences}
+use Rattle.mg_image_overlays.specs.pages.Trees.{trees_stay}
+use Rattle.mg_image_overlays.specs.kept.KeptImages.{IsKept, keeping}
 use Rattle.mg_model.specs.History.{Entries}
 use Rattle.mg_model.specs.declared.opening.Opening.{Opening}
 use Rattle.mg_model.specs.declared.table.Table.{Table}
-use Rattle.mg_image_overlays.specs.OneLayout.{sound_once}
+use Rattle.mg_image_overlays.specs.tables.OneLayout.{sound_once}
 use Rattle.mg_overlays.specs.BatchLaws.{good_of_pool}
 use Rattle.mg_overlays.specs.Overlays.{left_state}
-use Rattle.mg_image_overlays.specs.NotThere.{IsNotThere}
-use Rattle.mg_image_overlays.specs.OutSteps.{IsKeptAt, grown_out}
-use Rattle.mg_image_overlays.specs.Whose.{IsTableFor, alone, alone_is, maker_has, not_both}
+use Rattle.mg_image_overlays.specs.names.NotThere.{IsNotThere}
+use Rattle.mg_image_overlays.specs.tables.OutSteps.{IsKeptAt, grown_out}
+use Rattle.mg_image_overlays.specs.names.Whose.{IsTableFor, alone, alone_is, maker_has, not_both}
 use Rattle.mg_pool.specs.Batch.{Changed, content_in, lists}
 use Rattle.mg_pool.specs.Pool.{shown}
 use Rattle.mg_pool.specs.declared.pool.Pool.{Pool}

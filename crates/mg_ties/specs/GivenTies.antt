@@ -12,16 +12,16 @@ use Rattle.mg_image.specs.ReadingLaws.{RowsAreOne}
 use Rattle.mg_image.specs.Records.{Reading}
 use Rattle.mg_image.specs.Sound.{IsSoundBy}
 use Rattle.mg_image.specs.Tables.{Has, IsOnce, Layout, LinkChain, ended, entries_in, goes, stands_of, table_at}
-use Rattle.mg_image_overlays.specs.DataPages.{kind_of}
-use Rattle.mg_image_overlays.specs.Growth.{has_back, has_either, has_front}
-use Rattle.mg_image_overlays.specs.Kinds.{HasNoSequences}
-use Rattle.mg_image_overlays.specs.Trees.{trees_stay}
-use Rattle.mg_image_overlays.specs.KeptImages.{IsKept, keeping}
-use Rattle.mg_image_overlays.specs.Reach.{IsEntered, here, later, once_apart}
+use Rattle.mg_image_overlays.specs.pages.DataPages.{kind_of}
+use Rattle.mg_image_overlays.specs.pages.Growth.{has_back, has_either, has_front}
+use Rattle.mg_image_overlays.specs.pages.Kinds.{HasNoSequences}
+use Rattle.mg_image_overlays.specs.pages.Trees.{trees_stay}
+use Rattle.mg_image_overlays.specs.kept.KeptImages.{IsKept, keeping}
+use Rattle.mg_image_overlays.specs.pages.Reach.{IsEntered, here, later, once_apart}
 use Rattle.mg_model.specs.declared.opening.Opening.{Opening}
 use Rattle.mg_model.specs.declared.table.Table.{Table}
 use Rattle.mg_model.specs.History.{Entries}
-use Rattle.mg_image_overlays.specs.OneLayout.{sound_once}
+use Rattle.mg_image_overlays.specs.tables.OneLayout.{sound_once}
 use Rattle.mg_overlays.specs.BatchLaws.{good_of_pool}
 use Rattle.mg_overlays.specs.Overlays.{left_state}
 use Rattle.mg_pointer.specs.PointerPage.{entries_of, new_pointer_page, next_in}
@@ -36,9 +36,9 @@ use Rattle.mg_space.specs.ViewLaws.{viewed_else, viewed_here}
 use Rattle.mg_ties.specs.Changed.{BatchIsChanged, ChangesFresh, KeptIn, cache_over, changed_fresh, fresh, needs_in}
 use Rattle.mg_heap.specs.Growth.{ListsInLast, ListsInNew}
 use Rattle.mg_heap.specs.Room.{FindsOrGrows, GivesRoom, IsFirstWithRoom, looked_at}
-use Rattle.mg_image_overlays.specs.Growing.{IsTableOf}
-use Rattle.mg_image_overlays.specs.GrowingLaws.{StandsTo, grows_pool, table_of_end}
-use Rattle.mg_image_overlays.specs.Knowing.{entered_of}
+use Rattle.mg_image_overlays.specs.tables.Growing.{IsTableOf}
+use Rattle.mg_image_overlays.specs.tables.GrowingLaws.{StandsTo, grows_pool, table_of_end}
+use Rattle.mg_image_overlays.specs.kept.Knowing.{entered_of}
 use Rattle.mg_ties.specs.Batches.{viewed_same, within_self}
 use Rattle.mg_ties.specs.GrowthTies.{MayBeLast}
 use Rattle.mg_ties.specs.RoomTies.{GrowsSome, end_of, ends_there, last_are, last_front, last_there, pointer_may, pointers_once, room_grows}

@@ -23,11 +23,11 @@ use Rattle.mg_space.specs.View.{viewed}
 use Rattle.mg_space.specs.ViewLaws.{viewed_else, viewed_here}
 use Rattle.mg_ties.specs.Occupied.{taken_are_occupied}
 use Rattle.mg_ties.specs.Pointers.{entry_passes}
-use Rattle.mg_image_overlays.specs.EntryPage.{EntersPage}
-use Rattle.mg_image_overlays.specs.ExtendEvery.{OrdersPage}
-use Rattle.mg_image_overlays.specs.TakePart.{OccupiesPage}
+use Rattle.mg_image_overlays.specs.pages.EntryPage.{EntersPage}
+use Rattle.mg_image_overlays.specs.pages.ExtendEvery.{OrdersPage}
+use Rattle.mg_image_overlays.specs.pages.TakePart.{OccupiesPage}
 use Rattle.mg_heap.specs.Growth.{ListsInLast, before, orders_to}
-use Rattle.mg_image_overlays.specs.Growing.{Grows, enters, stays}
+use Rattle.mg_image_overlays.specs.tables.Growing.{Grows, enters, stays}
 use Rattle.mg_ties.specs.Batches.{IsWithin, has_here, has_on, has_same, lists_head, lists_later, lists_tail, viewed_same}
 
 -- A page may be a table's last pointer page: it is used, a pointer page by its kind, and none of the page

@@ -12,7 +12,7 @@ use Rattle.mg_careful.specs.Precedence.{Orders}
 use Rattle.mg_careful.specs.declared.graph.Order.{Order}
 use Rattle.mg_image.specs.Form.{Pages}
 use Rattle.mg_image.specs.Inventory.{inventory_page, is_used}
-use Rattle.mg_image_overlays.specs.DataPages.{kind_of}
+use Rattle.mg_image_overlays.specs.pages.DataPages.{kind_of}
 use Rattle.mg_pointer.specs.PointerPage.{AddsEntry, SetsNext, entries_of, new_pointer_page, next_in, pointer_checks}
 use Rattle.mg_pointer.specs.PointerPageLaws.{length-new_pointer_page, new_page_empty, new_page_next, new_page_passes}
 use Rattle.mg_pool.specs.Batch.{Changed, lists}
@@ -25,12 +25,12 @@ use Rattle.mg_space.specs.View.{viewed}
 use Rattle.mg_space.specs.ViewLaws.{viewed_else, viewed_here}
 use Rattle.mg_ties.specs.Occupied.{taken_are_occupied}
 use Rattle.mg_ties.specs.Pointers.{entry_passes, next_passes}
-use Rattle.mg_image_overlays.specs.EntryPage.{EntersPage}
-use Rattle.mg_image_overlays.specs.ExtendEvery.{OrdersPage}
-use Rattle.mg_image_overlays.specs.LinkPage.{LinksPage}
-use Rattle.mg_image_overlays.specs.TakePart.{OccupiesPage}
+use Rattle.mg_image_overlays.specs.pages.EntryPage.{EntersPage}
+use Rattle.mg_image_overlays.specs.pages.ExtendEvery.{OrdersPage}
+use Rattle.mg_image_overlays.specs.pages.LinkPage.{LinksPage}
+use Rattle.mg_image_overlays.specs.pages.TakePart.{OccupiesPage}
 use Rattle.mg_heap.specs.Growth.{ListsInNew, before, orders_to}
-use Rattle.mg_image_overlays.specs.Growing.{Grows, enters, links, stays}
+use Rattle.mg_image_overlays.specs.tables.Growing.{Grows, enters, links, stays}
 use Rattle.mg_ties.specs.Batches.{IsWithin, has_here, has_on, has_same, lists_head, lists_later, lists_sooner, lists_tail, viewed_same}
 use Rattle.mg_ties.specs.GrowthTies.{MayBeLast, new_data_passes}
 

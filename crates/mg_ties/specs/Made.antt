@@ -12,16 +12,16 @@ use Rattle.mg_ties.specs.FirstPages.{left_within}
 use Rattle.mg_ties.specs.Batches.{within_self}
 use Rattle.mg_image.specs.Form.{Form, Pages}
 use Rattle.mg_image.specs.ReadingLaws.{RowsAreOne}
-use Rattle.mg_image_overlays.specs.Kinds.{HasNoSequences}
-use Rattle.mg_image_overlays.specs.CommitLaws.{LeavesOthers}
-use Rattle.mg_image_overlays.specs.EndLaws.{longer_for}
-use Rattle.mg_image_overlays.specs.KeptImages.{IsKept, keeping}
+use Rattle.mg_image_overlays.specs.pages.Kinds.{HasNoSequences}
+use Rattle.mg_image_overlays.specs.transactions.CommitLaws.{LeavesOthers}
+use Rattle.mg_image_overlays.specs.transactions.EndLaws.{longer_for}
+use Rattle.mg_image_overlays.specs.kept.KeptImages.{IsKept, keeping}
 use Rattle.mg_model.specs.History.{Entries}
 use Rattle.mg_model.specs.declared.opening.Opening.{Opening}
-use Rattle.mg_image_overlays.specs.Making.{MakesNamed, creates_of}
+use Rattle.mg_image_overlays.specs.names.Making.{MakesNamed, creates_of}
 use Rattle.mg_overlays.specs.Overlays.{LaysBatch, laid, left_state, without}
 use Rattle.mg_overlays.specs.Views.{first_view, last_view}
-use Rattle.mg_image_overlays.specs.Creating.{create_kept, without_raises}
+use Rattle.mg_image_overlays.specs.names.Creating.{create_kept, without_raises}
 use Rattle.mg_overlays.specs.BatchLaws.{change_keeps_raised}
 use Rattle.mg_pool.specs.Batch.{Changed, content_in, lists}
 use Rattle.mg_pool.specs.Pool.{shown}

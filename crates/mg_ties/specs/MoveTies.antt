@@ -13,7 +13,7 @@ use Rattle.mg_ties.specs.Newest.{newest_found, newest_placed}
 use Rattle.mg_ties.specs.PushTies.{written}
 use Rattle.mg_ties.specs.PutTies.{PutsGiven, apart, free, grows, other_cells, put_cells, put_page, slot_given, slot_put, to, turn_cells, turn_page, walk_ordered}
 use Rattle.mg_ties.specs.Rows.{ForEach, ordered_page, table_of_page, within_orders, within_put}
-use Rattle.mg_image_overlays.specs.Growing.{IsTableOf, MayBeWritten}
+use Rattle.mg_image_overlays.specs.tables.Growing.{IsTableOf, MayBeWritten}
 use Rattle.mg_heap.specs.Reach.{IsReached}
 use Rattle.mg_heap.specs.Room.{GivesRoom}
 use Rattle.mg_ties.specs.Batches.{IsWithin, has_here, lists_later, lists_sooner, viewed_same, within_self}
@@ -25,21 +25,21 @@ use Rattle.mg_image.specs.ReadingLaws.{RowsAreOne}
 use Rattle.mg_image.specs.Records.{Changes, Reading, cells_of, record_key, slot_cell}
 use Rattle.mg_image.specs.Sound.{IsSoundBy, facts_by}
 use Rattle.mg_image.specs.Tables.{Layout, stands_of, table_at}
-use Rattle.mg_image_overlays.specs.DataPages.{ChangesData}
-use Rattle.mg_image_overlays.specs.Kinds.{HasNoSequences}
-use Rattle.mg_image_overlays.specs.CommitLaws.{LeavesOthers}
-use Rattle.mg_image_overlays.specs.KeptImages.{IsKept, keeping}
-use Rattle.mg_image_overlays.specs.Reach.{IsEntered}
+use Rattle.mg_image_overlays.specs.pages.DataPages.{ChangesData}
+use Rattle.mg_image_overlays.specs.pages.Kinds.{HasNoSequences}
+use Rattle.mg_image_overlays.specs.transactions.CommitLaws.{LeavesOthers}
+use Rattle.mg_image_overlays.specs.kept.KeptImages.{IsKept, keeping}
+use Rattle.mg_image_overlays.specs.pages.Reach.{IsEntered}
 use Rattle.mg_model.specs.History.{Entries}
 use Rattle.mg_model.specs.declared.opening.Opening.{Opening}
 use Rattle.mg_model.specs.declared.table.Table.{Table}
 use Rattle.mg_overlays.specs.BatchLaws.{good_of_pool}
 use Rattle.mg_overlays.specs.Overlays.{left_state}
-use Rattle.mg_image_overlays.specs.MovePart.{MovesPages, OrdersMove}
-use Rattle.mg_image_overlays.specs.OwnVersion.{RewritesRow}
-use Rattle.mg_image_overlays.specs.MoveFor.{MoveThere, move_for_every}
-use Rattle.mg_image_overlays.specs.NotThere.{HasNoneOf, IsNotThere}
-use Rattle.mg_image_overlays.specs.Whose.{IsTableFor, alone, alone_is, maker_has}
+use Rattle.mg_image_overlays.specs.records.MovePart.{MovesPages, OrdersMove}
+use Rattle.mg_image_overlays.specs.records.OwnVersion.{RewritesRow}
+use Rattle.mg_image_overlays.specs.tables.MoveFor.{MoveThere, move_for_every}
+use Rattle.mg_image_overlays.specs.names.NotThere.{HasNoneOf, IsNotThere}
+use Rattle.mg_image_overlays.specs.names.Whose.{IsTableFor, alone, alone_is, maker_has}
 use Rattle.mg_pool.specs.Batch.{Changed, content_in, lists}
 use Rattle.mg_pool.specs.Pool.{shown}
 use Rattle.mg_pool.specs.declared.pool.Pool.{Pool}

@@ -12,12 +12,12 @@ use Rattle.mg_image.specs.Records.{Cells, Chain, Reading, cells_of, newest_of, r
 use Rattle.mg_image.specs.Sound.{IsSoundBy, facts_by}
 use Rattle.mg_image.specs.Tables.{Layout, stands_of, table_at}
 use Rattle.mg_model.specs.declared.table.Table.{Table}
-use Rattle.mg_image_overlays.specs.OwnVersion.{FindsNewest}
+use Rattle.mg_image_overlays.specs.records.OwnVersion.{FindsNewest}
 use Rattle.mg_version.specs.declared.cell.Cell.{Cell}
 use Rattle.mg_version.specs.declared.cell.Cell.TheVariants as cells
 use Rattle.mg_version.specs.declared.cell.Link.{Link}
 use Rattle.mg_version.specs.declared.cell.Version.{Version}
-use Rattle.mg_image_overlays.specs.Growing.{FindsSettled}
+use Rattle.mg_image_overlays.specs.tables.Growing.{FindsSettled}
 
 -- The versions of a record begin with the one to which a link leads.
 pub record BeginsAt (h : Cells) (es : List Entry) (l : Link) : Type 0 where

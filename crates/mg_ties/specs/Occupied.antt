@@ -6,11 +6,11 @@ use Rattle.mg_base.specs.declared.geometry.Geometry.{Geometry}
 use Rattle.mg_image.specs.Form.{Pages}
 use Rattle.mg_image.specs.Inventory.{inventory_page, is_used}
 use Rattle.mg_image.specs.Sound.{HasRegion}
-use Rattle.mg_image_overlays.specs.DataPages.{all_passes, byte_blank, kind_of}
+use Rattle.mg_image_overlays.specs.pages.DataPages.{all_passes, byte_blank, kind_of}
 use Rattle.mg_pip.specs.PipPage.{bits, pip_checks, used_in}
 use Rattle.mg_space.specs.Taking.{IsGeometry, IsLawfulRegion, TakesPage, region_of}
 use Rattle.mg_space.specs.TakingLaws.{own_region, takes_bit, takes_keeps, takes_region}
-use Rattle.mg_image_overlays.specs.TakePart.{OccupiesPage}
+use Rattle.mg_image_overlays.specs.pages.TakePart.{OccupiesPage}
 
 -- Two views follow one another as those between which a page was taken: they have the same inventory
 -- pages as these, and but for the page itself and its inventory page nothing changes.

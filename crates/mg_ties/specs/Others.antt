@@ -4,9 +4,9 @@ use Rattle.mg_base.specs.Checks.{Check, PassesAll, common_checks}
 use Rattle.mg_base.specs.Fields.{byte}
 use Rattle.mg_base.specs.declared.transaction.TxState.{TxState}
 use Rattle.mg_careful.specs.Precedence.{Orders}
-use Rattle.mg_image_overlays.specs.Growing.{EndsAt, Grows, TableEnd, entered_end, enters, linked_end, links, stays}
-use Rattle.mg_image_overlays.specs.GrowingLaws.{enters_to, links_to, taken_sound}
-use Rattle.mg_image_overlays.specs.Knowing.{its_pages}
+use Rattle.mg_image_overlays.specs.tables.Growing.{EndsAt, Grows, TableEnd, entered_end, enters, linked_end, links, stays}
+use Rattle.mg_image_overlays.specs.tables.GrowingLaws.{enters_to, links_to, taken_sound}
+use Rattle.mg_image_overlays.specs.kept.Knowing.{its_pages}
 use Rattle.mg_heap.specs.Reading.{owner_in}
 use Rattle.mg_image.specs.Form.{Form, Pages}
 use Rattle.mg_image.specs.Inventory.{is_used}
@@ -14,15 +14,15 @@ use Rattle.mg_image.specs.ReadingLaws.{RowsAreOne}
 use Rattle.mg_image.specs.Records.{Reading}
 use Rattle.mg_image.specs.Sound.{IsSoundBy, IsTablePointer}
 use Rattle.mg_image.specs.Tables.{EachFrom, Has, Layout}
-use Rattle.mg_image_overlays.specs.DataPages.{ChangesData, used_kept}
-use Rattle.mg_image_overlays.specs.Growth.{has_back}
-use Rattle.mg_image_overlays.specs.Kinds.{HasNoSequences}
-use Rattle.mg_image_overlays.specs.Trees.{trees_stay}
+use Rattle.mg_image_overlays.specs.pages.DataPages.{ChangesData, used_kept}
+use Rattle.mg_image_overlays.specs.pages.Growth.{has_back}
+use Rattle.mg_image_overlays.specs.pages.Kinds.{HasNoSequences}
+use Rattle.mg_image_overlays.specs.pages.Trees.{trees_stay}
 use Rattle.mg_model.specs.declared.table.Table.{Table}
-use Rattle.mg_image_overlays.specs.OneLayout.{sound_once}
+use Rattle.mg_image_overlays.specs.tables.OneLayout.{sound_once}
 use Rattle.mg_pointer.specs.PointerPage.{pointer_checks}
-use Rattle.mg_image_overlays.specs.PointerPage.{ChangesPointer, used_on}
-use Rattle.mg_image_overlays.specs.TakePart.{OccupiesPage}
+use Rattle.mg_image_overlays.specs.pages.PointerPage.{ChangesPointer, used_on}
+use Rattle.mg_image_overlays.specs.pages.TakePart.{OccupiesPage}
 use Rattle.std.proofs.Common.{List, Option, [], ap, arith, false, inl, inr, refl, subst, suc, sym, true, ℕ, ◌++◌, ◌<◌, ◌∙◌, ◌∷◌, ◌≡◌, ◌≢◌, ◌≤◌}
 
 -- A page in use, of another owner than a table, which is neither the header's nor of the page inventory.

@@ -3,7 +3,7 @@
 use Rattle.mg_base.specs.Image.{Image}
 use Rattle.mg_base.specs.declared.numbers.PageNo.{PageNo}
 use Rattle.mg_base.specs.declared.transaction.TxState.{TxState}
-use Rattle.mg_image_overlays.specs.Growing.{IsTableOf}
+use Rattle.mg_image_overlays.specs.tables.Growing.{IsTableOf}
 use Rattle.mg_heap.specs.Room.{FindsOrGrows, GivesRoom, looked_at}
 use Rattle.mg_ties.specs.GivenTies.{has_at, looked_within}
 use Rattle.mg_ties.specs.RoomTies.{last_there}
@@ -12,10 +12,10 @@ use Rattle.mg_image.specs.Inventory.{is_used}
 use Rattle.mg_image.specs.Records.{Reading}
 use Rattle.mg_image.specs.Sound.{IsSoundBy}
 use Rattle.mg_image.specs.Tables.{Has, Layout, stands_of, table_at}
-use Rattle.mg_image_overlays.specs.Kinds.{HasNoSequences, pointers_of}
+use Rattle.mg_image_overlays.specs.pages.Kinds.{HasNoSequences, pointers_of}
 use Rattle.mg_model.specs.declared.table.Table.{Table}
-use Rattle.mg_image_overlays.specs.NotThere.{HasNoneOf, IsOutOf}
-use Rattle.mg_image_overlays.specs.Whose.{page_beyond, unused_none}
+use Rattle.mg_image_overlays.specs.names.NotThere.{HasNoneOf, IsOutOf}
+use Rattle.mg_image_overlays.specs.names.Whose.{page_beyond, unused_none}
 use Rattle.mg_pool.specs.Batch.{Changed}
 use Rattle.mg_pool.specs.declared.pool.Pool.{Pool}
 use Rattle.mg_space.specs.Taking.{IsGeometry, TakesPage}

@@ -10,29 +10,29 @@ use Rattle.mg_ties.specs.Newest.{newest_found, newest_placed}
 use Rattle.mg_ties.specs.PushTies.{written}
 use Rattle.mg_ties.specs.PutTies.{version_may}
 use Rattle.mg_ties.specs.Rows.{ForEach, table_of_page}
-use Rattle.mg_image_overlays.specs.Entries.{StaysFound, found_beside}
-use Rattle.mg_image_overlays.specs.Growing.{IsTableOf, MayBeWritten}
-use Rattle.mg_image_overlays.specs.Knowing.{lawful_there}
+use Rattle.mg_image_overlays.specs.pages.Entries.{StaysFound, found_beside}
+use Rattle.mg_image_overlays.specs.tables.Growing.{IsTableOf, MayBeWritten}
+use Rattle.mg_image_overlays.specs.kept.Knowing.{lawful_there}
 use Rattle.mg_ties.specs.CellTies.{HasLawfulCells, lawful_cells, sets_cells, sets_page, spelled_is}
 use Rattle.mg_image.specs.Form.{Form, Pages, Row}
 use Rattle.mg_image.specs.ReadingLaws.{RowsAreOne}
 use Rattle.mg_image.specs.Records.{Changes, Reading, cells_of, record_key}
 use Rattle.mg_image.specs.Sound.{IsSoundBy, facts_by}
 use Rattle.mg_image.specs.Tables.{Layout, stands_of, table_at}
-use Rattle.mg_image_overlays.specs.DataPages.{ChangesData}
-use Rattle.mg_image_overlays.specs.Kinds.{HasNoSequences}
-use Rattle.mg_image_overlays.specs.CommitLaws.{LeavesOthers}
-use Rattle.mg_image_overlays.specs.KeptImages.{IsKept, keeping}
+use Rattle.mg_image_overlays.specs.pages.DataPages.{ChangesData}
+use Rattle.mg_image_overlays.specs.pages.Kinds.{HasNoSequences}
+use Rattle.mg_image_overlays.specs.transactions.CommitLaws.{LeavesOthers}
+use Rattle.mg_image_overlays.specs.kept.KeptImages.{IsKept, keeping}
 use Rattle.mg_model.specs.History.{Entries}
 use Rattle.mg_model.specs.declared.opening.Opening.{Opening}
 use Rattle.mg_model.specs.declared.table.Table.{Table}
 use Rattle.mg_overlays.specs.BatchLaws.{good_of_pool}
 use Rattle.mg_overlays.specs.Overlays.{left_state}
-use Rattle.mg_image_overlays.specs.OwnVersion.{FindsOwn, RewritesRow}
-use Rattle.mg_image_overlays.specs.ReplacePart.{ReplacesPage}
-use Rattle.mg_image_overlays.specs.NotThere.{HasNoData, IsNotThere}
-use Rattle.mg_image_overlays.specs.ReplaceFor.{replace_for_every}
-use Rattle.mg_image_overlays.specs.Whose.{IsTableFor, alone, alone_is, maker_has, page_beyond}
+use Rattle.mg_image_overlays.specs.records.OwnVersion.{FindsOwn, RewritesRow}
+use Rattle.mg_image_overlays.specs.records.ReplacePart.{ReplacesPage}
+use Rattle.mg_image_overlays.specs.names.NotThere.{HasNoData, IsNotThere}
+use Rattle.mg_image_overlays.specs.tables.ReplaceFor.{replace_for_every}
+use Rattle.mg_image_overlays.specs.names.Whose.{IsTableFor, alone, alone_is, maker_has, page_beyond}
 use Rattle.mg_pool.specs.Batch.{Changed, content_in, lists}
 use Rattle.mg_pool.specs.Pool.{shown}
 use Rattle.mg_pool.specs.declared.pool.Pool.{Pool}

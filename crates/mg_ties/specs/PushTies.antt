@@ -11,7 +11,7 @@ use Rattle.mg_chain.specs.Writing.{Pushes, leading_to, link_to}
 use Rattle.mg_ties.specs.Newest.{settled_found}
 use Rattle.mg_ties.specs.PutTies.{PutsGiven, apart, free, grows, header_off, put_cells, put_page, slot_given, slot_put, turn_cells, turn_page, walk_ordered}
 use Rattle.mg_ties.specs.Rows.{ForEach, ordered_page, table_of_page, within_orders, within_put}
-use Rattle.mg_image_overlays.specs.Growing.{IsTableOf, MayBeWritten}
+use Rattle.mg_image_overlays.specs.tables.Growing.{IsTableOf, MayBeWritten}
 use Rattle.mg_heap.specs.Reach.{IsReached}
 use Rattle.mg_heap.specs.Room.{GivesRoom}
 use Rattle.mg_ties.specs.Batches.{IsWithin, has_here, lists_later, lists_sooner, viewed_same, within_self}
@@ -24,23 +24,23 @@ use Rattle.mg_image.specs.Records.{Reading, cells_of, record_key}
 use Rattle.mg_image.specs.Sound.{IsSoundBy, facts_by}
 use Rattle.mg_image.specs.Tables.{Has, Layout, stands_of, table_at}
 use Rattle.mg_image.specs.declared.entry.Entry.{Entry}
-use Rattle.mg_image_overlays.specs.Kinds.{HasNoSequences}
-use Rattle.mg_image_overlays.specs.CommitLaws.{LeavesOthers}
-use Rattle.mg_image_overlays.specs.KeptImages.{IsKept, keeping}
+use Rattle.mg_image_overlays.specs.pages.Kinds.{HasNoSequences}
+use Rattle.mg_image_overlays.specs.transactions.CommitLaws.{LeavesOthers}
+use Rattle.mg_image_overlays.specs.kept.KeptImages.{IsKept, keeping}
 use Rattle.mg_model.specs.History.{Entries}
 use Rattle.mg_model.specs.declared.opening.Opening.{Opening}
 use Rattle.mg_model.specs.declared.table.Table.{Table}
 use Rattle.mg_overlays.specs.BatchLaws.{good_of_pool}
 use Rattle.mg_overlays.specs.Overlays.{left_by, left_state}
-use Rattle.mg_image_overlays.specs.NotThere.{HasNoneOf, IsNotThere}
-use Rattle.mg_image_overlays.specs.PushFor.{PushThere, push_for_every}
-use Rattle.mg_image_overlays.specs.Whose.{IsTableFor, alone, alone_is, maker_has}
+use Rattle.mg_image_overlays.specs.names.NotThere.{HasNoneOf, IsNotThere}
+use Rattle.mg_image_overlays.specs.tables.PushFor.{PushThere, push_for_every}
+use Rattle.mg_image_overlays.specs.names.Whose.{IsTableFor, alone, alone_is, maker_has}
 use Rattle.mg_pool.specs.Batch.{Changed, content_in, lists}
 use Rattle.mg_pool.specs.Pool.{shown}
 use Rattle.mg_pool.specs.declared.pool.Pool.{Pool}
 use Rattle.mg_pool_overlays.specs.Needs.{Asked, Sessions}
-use Rattle.mg_image_overlays.specs.OwnWrites.{WritesRow}
-use Rattle.mg_image_overlays.specs.PushPart.{OrdersPush, PushesPages}
+use Rattle.mg_image_overlays.specs.records.OwnWrites.{WritesRow}
+use Rattle.mg_image_overlays.specs.records.PushPart.{OrdersPush, PushesPages}
 use Rattle.mg_slots.specs.DataPage.{cell_of}
 use Rattle.mg_slots.specs.Room.{need_of}
 use Rattle.mg_slots.specs.RoomLaws.{least_free_is_free}

@@ -14,12 +14,12 @@ use Rattle.mg_image.specs.ReadingLaws.{RowsAreOne}
 use Rattle.mg_image.specs.Records.{Changes, Reading, cells_of, slot_cell}
 use Rattle.mg_image.specs.Sound.{IsCellOf, IsSoundBy}
 use Rattle.mg_image.specs.Tables.{Has, Layout, stands_of, table_at}
-use Rattle.mg_image_overlays.specs.DataPages.{ChangesData, all_passes, kind_of}
-use Rattle.mg_image_overlays.specs.Kinds.{HasNoSequences}
-use Rattle.mg_image_overlays.specs.Trees.{trees_stay}
-use Rattle.mg_image_overlays.specs.Reach.{IsEntered}
+use Rattle.mg_image_overlays.specs.pages.DataPages.{ChangesData, all_passes, kind_of}
+use Rattle.mg_image_overlays.specs.pages.Kinds.{HasNoSequences}
+use Rattle.mg_image_overlays.specs.pages.Trees.{trees_stay}
+use Rattle.mg_image_overlays.specs.pages.Reach.{IsEntered}
 use Rattle.mg_model.specs.declared.table.Table.{Table}
-use Rattle.mg_image_overlays.specs.OneLayout.{sound_once}
+use Rattle.mg_image_overlays.specs.tables.OneLayout.{sound_once}
 use Rattle.mg_pool.specs.Batch.{Changed}
 use Rattle.mg_pool.specs.declared.pool.Pool.{Pool}
 use Rattle.mg_slots.specs.Changes.{SetsCell}
@@ -37,9 +37,9 @@ use Rattle.mg_heap.specs.Reach.{IsReached}
 use Rattle.mg_heap.specs.Reading.{IsSomeData, owner_in, sequence_in}
 use Rattle.mg_heap.specs.Room.{GivesRoom}
 use Rattle.mg_chain.specs.Writing.{TurnsTo}
-use Rattle.mg_image_overlays.specs.Growing.{IsTableOf}
-use Rattle.mg_image_overlays.specs.GrowingLaws.{StandsTo, grows_pool, table_of_end}
-use Rattle.mg_image_overlays.specs.Knowing.{entered_of, pointers_keep}
+use Rattle.mg_image_overlays.specs.tables.Growing.{IsTableOf}
+use Rattle.mg_image_overlays.specs.tables.GrowingLaws.{StandsTo, grows_pool, table_of_end}
+use Rattle.mg_image_overlays.specs.kept.Knowing.{entered_of, pointers_keep}
 use Rattle.mg_ties.specs.Batches.{IsWithin}
 use Rattle.mg_ties.specs.CellTies.{HasLawfulCells, cells_still, lawful_cells, sets_cells, sets_page, spelled_is}
 use Rattle.mg_ties.specs.RoomTies.{GrowsSome, end_of, ends_there, room_grows}

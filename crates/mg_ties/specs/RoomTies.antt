@@ -13,12 +13,12 @@ use Rattle.mg_image.specs.Inventory.{inventory_page}
 use Rattle.mg_image.specs.Records.{Reading}
 use Rattle.mg_image.specs.Sound.{HasRegion, HasTablePages, IsSoundBy, IsTableData, IsTablePointer}
 use Rattle.mg_image.specs.Tables.{EachFrom, Has, IsOnce, Layout, LinkChain, PointerChain, ended, entries_in, goes, tree_pages}
-use Rattle.mg_image_overlays.specs.DataPages.{all_passes, byte_blank, kind_of}
-use Rattle.mg_image_overlays.specs.Growth.{has_back}
-use Rattle.mg_image_overlays.specs.Reach.{once_back, once_front}
+use Rattle.mg_image_overlays.specs.pages.DataPages.{all_passes, byte_blank, kind_of}
+use Rattle.mg_image_overlays.specs.pages.Growth.{has_back}
+use Rattle.mg_image_overlays.specs.pages.Reach.{once_back, once_front}
 use Rattle.mg_model.specs.declared.table.Table.{Table}
-use Rattle.mg_image_overlays.specs.OneChain.{link_once}
-use Rattle.mg_image_overlays.specs.GrowPages.{once_mid}
+use Rattle.mg_image_overlays.specs.tables.OneChain.{link_once}
+use Rattle.mg_image_overlays.specs.pages.GrowPages.{once_mid}
 use Rattle.mg_pip.specs.PipPage.{pip_checks}
 use Rattle.mg_pointer.specs.PointerPage.{next_in, pointer_checks}
 use Rattle.mg_pool.specs.Batch.{Changed}
@@ -26,12 +26,12 @@ use Rattle.mg_pool.specs.declared.pool.Pool.{Pool}
 use Rattle.mg_space.specs.Taking.{IsGeometry}
 use Rattle.mg_space.specs.TakingLaws.{page_sizes}
 use Rattle.mg_space.specs.View.{viewed}
-use Rattle.mg_image_overlays.specs.LinkPage.{length_last}
+use Rattle.mg_image_overlays.specs.pages.LinkPage.{length_last}
 use Rattle.mg_heap.specs.Room.{FindsOrGrows, GivesRoom}
 use Rattle.mg_heap.specs.Table.{IsTable}
 use Rattle.mg_heap.specs.TableLaws.{once_short}
-use Rattle.mg_image_overlays.specs.Growing.{EndsAt, Grows, IsTableOf, TableEnd, stays}
-use Rattle.mg_image_overlays.specs.Knowing.{its_once, its_pages}
+use Rattle.mg_image_overlays.specs.tables.Growing.{EndsAt, Grows, IsTableOf, TableEnd, stays}
+use Rattle.mg_image_overlays.specs.kept.Knowing.{its_once, its_pages}
 use Rattle.mg_ties.specs.Batches.{IsWithin}
 use Rattle.mg_ties.specs.GrowthTies.{MayBeLast, last_grows}
 use Rattle.mg_ties.specs.LinkTies.{new_grows}

@@ -10,9 +10,9 @@ use Rattle.mg_image.specs.Form.{Form, Pages}
 use Rattle.mg_image.specs.Records.{Reading}
 use Rattle.mg_image.specs.Sound.{IsSoundBy}
 use Rattle.mg_image.specs.Tables.{EachFrom, Has, Layout, Stand, has, stands_of, table_at}
-use Rattle.mg_image_overlays.specs.DataPages.{kind_of}
-use Rattle.mg_image_overlays.specs.Growth.{has_back, has_either, has_front}
-use Rattle.mg_image_overlays.specs.Reach.{IsEntered, here, later}
+use Rattle.mg_image_overlays.specs.pages.DataPages.{kind_of}
+use Rattle.mg_image_overlays.specs.pages.Growth.{has_back, has_either, has_front}
+use Rattle.mg_image_overlays.specs.pages.Reach.{IsEntered, here, later}
 use Rattle.mg_model.specs.declared.table.Table.{Table}
 use Rattle.mg_overlays.specs.Overlays.{left_state}
 use Rattle.mg_pointer.specs.PointerPage.{entries_of, next_in, pointer_checks}
@@ -21,7 +21,7 @@ use Rattle.mg_heap.specs.Growth.{AddsOrders, before}
 use Rattle.mg_heap.specs.Reach.{IsReached}
 use Rattle.mg_heap.specs.Table.{IsPointerAt, LinkRun, more, none}
 use Rattle.mg_chain.specs.Orders.{before_page}
-use Rattle.mg_image_overlays.specs.Growing.{IsTableOf}
+use Rattle.mg_image_overlays.specs.tables.Growing.{IsTableOf}
 use Rattle.mg_ties.specs.Batches.{IsWithin, has_on, has_same, lists_head, lists_sooner, lists_tail}
 
 -- ---- what is asked

@@ -6,7 +6,7 @@ use Rattle.mg_base.specs.declared.transaction.TxState.{TxState}
 use Rattle.mg_base.specs.declared.transaction.TxState.TheVariants.{Active}
 use Rattle.mg_chain.specs.Writing.{GivesSpot}
 use Rattle.mg_ties.specs.Rows.{ForEach}
-use Rattle.mg_image_overlays.specs.Growing.{IsTableOf}
+use Rattle.mg_image_overlays.specs.tables.Growing.{IsTableOf}
 use Rattle.mg_ties.specs.GivenForTies.{given_pages_are_for}
 use Rattle.mg_ties.specs.GivenTies.{given_pages_are}
 use Rattle.mg_ties.specs.SpotTies.{spot_row_keeps, spot_row_keeps_for}
@@ -14,11 +14,11 @@ use Rattle.mg_image.specs.Form.{Form, Pages}
 use Rattle.mg_image.specs.ReadingLaws.{RowsAreOne}
 use Rattle.mg_image.specs.Records.{cells_of, slot_cell}
 use Rattle.mg_image.specs.Tables.{stands_of, table_at}
-use Rattle.mg_image_overlays.specs.Kinds.{HasNoSequences}
+use Rattle.mg_image_overlays.specs.pages.Kinds.{HasNoSequences}
 use Rattle.mg_model.specs.History.{Entries}
 use Rattle.mg_model.specs.declared.opening.Opening.{Opening}
 use Rattle.mg_model.specs.declared.table.Table.{Table}
-use Rattle.mg_image_overlays.specs.Whose.{IsTableFor}
+use Rattle.mg_image_overlays.specs.names.Whose.{IsTableFor}
 use Rattle.mg_pool.specs.Batch.{Changed}
 use Rattle.mg_pool.specs.Pool.{shown}
 use Rattle.mg_pool.specs.declared.pool.Pool.{Pool}

@@ -4,8 +4,8 @@ use Rattle.mg_base.specs.Image.{Image}
 use Rattle.mg_base.specs.declared.numbers.PageNo.{PageNo}
 use Rattle.mg_base.specs.declared.transaction.TxState.{TxState}
 use Rattle.mg_base.specs.declared.transaction.TxState.TheVariants.{Active}
-use Rattle.mg_image_overlays.specs.Growing.{EndsAt, Grows, IsTableOf}
-use Rattle.mg_image_overlays.specs.GrowthEvery.{growth_every}
+use Rattle.mg_image_overlays.specs.tables.Growing.{EndsAt, Grows, IsTableOf}
+use Rattle.mg_image_overlays.specs.tables.GrowthEvery.{growth_every}
 use Rattle.mg_heap.specs.Room.{GivesRoom}
 use Rattle.mg_ties.specs.Batches.{within_self}
 use Rattle.mg_ties.specs.OutTies.{last_beyond}
@@ -15,16 +15,16 @@ use Rattle.mg_image.specs.ReadingLaws.{RowsAreOne}
 use Rattle.mg_image.specs.Records.{Reading}
 use Rattle.mg_image.specs.Sound.{IsSoundBy}
 use Rattle.mg_image.specs.Tables.{Has, Layout, stands_of}
-use Rattle.mg_image_overlays.specs.Kinds.{HasNoSequences, pointers_of}
-use Rattle.mg_image_overlays.specs.KeptImages.{IsKept, keeping}
+use Rattle.mg_image_overlays.specs.pages.Kinds.{HasNoSequences, pointers_of}
+use Rattle.mg_image_overlays.specs.kept.KeptImages.{IsKept, keeping}
 use Rattle.mg_model.specs.History.{Entries}
 use Rattle.mg_model.specs.declared.opening.Opening.{Opening}
 use Rattle.mg_model.specs.declared.table.Table.{Table}
 use Rattle.mg_overlays.specs.BatchLaws.{good_of_pool}
 use Rattle.mg_overlays.specs.Overlays.{left_state, nobody}
-use Rattle.mg_image_overlays.specs.GrowthFor.{growth_for_every}
-use Rattle.mg_image_overlays.specs.NotThere.{IsNotThere}
-use Rattle.mg_image_overlays.specs.Whose.{IsTableFor, alone, alone_is, maker_has}
+use Rattle.mg_image_overlays.specs.tables.GrowthFor.{growth_for_every}
+use Rattle.mg_image_overlays.specs.names.NotThere.{IsNotThere}
+use Rattle.mg_image_overlays.specs.names.Whose.{IsTableFor, alone, alone_is, maker_has}
 use Rattle.mg_pool.specs.Batch.{Changed, content_in, lists}
 use Rattle.mg_pool.specs.Pool.{shown}
 use Rattle.mg_pool.specs.declared.pool.Pool.{Pool}

@@ -1,6 +1,6 @@
 //! Each outcome of CREATE TABLE. Each function's contract is the laws.
 
-ghost use Rattle.mg_engine_changes.specs.MakingSteps.{CreationsKeepApart, RefusalsKeepApart, TablesAreMade, TablesAreRefused};
+ghost use Rattle.mg_engine_changes.specs.tables.MakingSteps.{CreationsKeepApart, RefusalsKeepApart, TablesAreMade, TablesAreRefused};
 
 use crate::{
     creations_are_refused, growths_stay, made_rows_are_remembered, made_rows_follow,

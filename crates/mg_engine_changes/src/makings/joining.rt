@@ -10,9 +10,9 @@
 //! So the steps of a batch are taken with the maker dead, and the tables that it has made before need not be among them.
 //! So every overlay is kept for the history with an entry for each row (`MadeTableKeeps`), where the pages are there.
 
-ghost use Rattle.mg_engine_changes.specs.Joined.{JoinedAreKept, JoinedAreSound};
-ghost use Rattle.mg_engine_changes.specs.JoinedBatch.{MadeTableKeeps};
-ghost use Rattle.mg_engine_changes.specs.TableReads.{TablesAreRead};
+ghost use Rattle.mg_engine_changes.specs.tables.Joined.{JoinedAreKept, JoinedAreSound};
+ghost use Rattle.mg_engine_changes.specs.tables.JoinedBatch.{MadeTableKeeps};
+ghost use Rattle.mg_engine_changes.specs.tables.TableReads.{TablesAreRead};
 ghost use Rattle.mg_image.specs.Form.{packed_form};
 
 use mg_base::Disk;

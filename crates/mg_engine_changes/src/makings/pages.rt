@@ -1,7 +1,7 @@
 //! What comes of pages where a table is made. Each function's contract is the law.
 
-ghost use Rattle.mg_engine_changes.specs.Growth.{GrowthsStay};
-ghost use Rattle.mg_engine_changes.specs.StandMade.{LeftPagesAreThere};
+ghost use Rattle.mg_engine_changes.specs.tables.Growth.{GrowthsStay};
+ghost use Rattle.mg_engine_changes.specs.tables.StandMade.{LeftPagesAreThere};
 ghost use Rattle.mg_image.specs.Form.{packed_form};
 
 use mg_base::Disk;

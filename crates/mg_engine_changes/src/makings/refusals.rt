@@ -1,6 +1,6 @@
 //! A table is refused before its rows are put.
 
-ghost use Rattle.mg_engine_changes.specs.MakingRefusals.{CreationsAreRefused};
+ghost use Rattle.mg_engine_changes.specs.tables.MakingRefusals.{CreationsAreRefused};
 
 use mg_base::Disk;
 use mg_engine_steps::{batches_last, entries_go_on, keys_are_answered, standings_go_on};

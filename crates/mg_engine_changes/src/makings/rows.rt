@@ -5,10 +5,10 @@
 //! (`RowsAreRemembered`); and the transaction sees the table that they say, and every other one as before
 //! (`MadeAreSeen`). They are lawful, under their own keys, and say that table alone (`RowsSayTable`).
 
-ghost use Rattle.mg_engine_changes.specs.NewTable.{RowsSayTable};
-ghost use Rattle.mg_engine_changes.specs.Remembering.{RowsAreRemembered};
-ghost use Rattle.mg_engine_changes.specs.Rows.{RowsFollow};
-ghost use Rattle.mg_engine_changes.specs.Seen.{MadeAreSeen};
+ghost use Rattle.mg_engine_changes.specs.tables.NewTable.{RowsSayTable};
+ghost use Rattle.mg_engine_changes.specs.tables.Remembering.{RowsAreRemembered};
+ghost use Rattle.mg_engine_changes.specs.tables.Rows.{RowsFollow};
+ghost use Rattle.mg_engine_changes.specs.tables.Seen.{MadeAreSeen};
 
 use mg_engine_steps::{keys_are_answered, memory_follows, versions_go_on};
 use mg_undo::the_list_follows_the_machine;

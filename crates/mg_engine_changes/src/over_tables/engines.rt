@@ -1,6 +1,6 @@
 //! A transaction is taken back over tables that it had made. The function does nothing: its contract is the laws.
 
-ghost use Rattle.mg_engine_changes.specs.EngineOver.{EnginesGoOver, OthersWalkOver};
+ghost use Rattle.mg_engine_changes.specs.tables_back.EngineOver.{EnginesGoOver, OthersWalkOver};
 
 use crate::{
     cores_take_all, cores_take_rows, keys_are_taken, keys_keep_lists, keys_keep_pages,

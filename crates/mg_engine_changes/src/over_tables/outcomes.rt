@@ -1,7 +1,7 @@
 //! What the calls of the core that take a transaction back over tables owe a keeper of records. Each function does nothing:
 //! its contract is the laws.
 
-ghost use Rattle.mg_engine_changes.specs.OverOutcomes.{MarksGiveOver, RefusalsGiveOver, SavepointsGiveOver};
+ghost use Rattle.mg_engine_changes.specs.tables_back.OverOutcomes.{MarksGiveOver, RefusalsGiveOver, SavepointsGiveOver};
 
 use crate::{backs_are_known, engines_go_over, rows_are_given};
 use mg_base::Disk;

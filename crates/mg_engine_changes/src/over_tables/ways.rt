@@ -1,8 +1,8 @@
 //! Memory, walks and the batches in which the rows of the catalog go. Each function does nothing: its contract is the law.
 
-ghost use Rattle.mg_engine_changes.specs.CoreRows.{CoresTakeRows};
-ghost use Rattle.mg_engine_changes.specs.TablesMemory.{TablesFollow};
-ghost use Rattle.mg_engine_changes.specs.TablesWalks.{TablesWalksGoOn};
+ghost use Rattle.mg_engine_changes.specs.tables_back.CoreRows.{CoresTakeRows};
+ghost use Rattle.mg_engine_changes.specs.tables_back.TablesMemory.{TablesFollow};
+ghost use Rattle.mg_engine_changes.specs.tables_back.TablesWalks.{TablesWalksGoOn};
 
 use crate::row_walks_go_on;
 use mg_base::Disk;

@@ -1,6 +1,6 @@
 //! A table is kept. The function does nothing: its contract is the laws.
 
-ghost use Rattle.mg_engine_changes.specs.KeptTables.{NotedTablesAreKept, NotedWorksStay, NotesStay};
+ghost use Rattle.mg_engine_changes.specs.memory.KeptTables.{NotedTablesAreKept, NotedWorksStay, NotesStay};
 
 use mg_base::Disk;
 

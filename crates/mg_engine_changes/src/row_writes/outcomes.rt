@@ -1,6 +1,6 @@
 //! A row is written into a table that is kept first. Each function does nothing: its contract is the laws.
 
-ghost use Rattle.mg_engine_changes.specs.Steps.{NotLaidGives, NotedFailsApart, NotedFailsGive, NotedWritesApart, NotedWritesGive};
+ghost use Rattle.mg_engine_changes.specs.rows.Steps.{NotLaidGives, NotedFailsApart, NotedFailsGive, NotedWritesApart, NotedWritesGive};
 
 use crate::{first_batches_stay, made_rows_give, noted_tables_are_quiet, refusals_go_on};
 use mg_base::Disk;

@@ -8,7 +8,7 @@
 //! `specs/RowWalks` has what counts, the other files prove it. There is no program here: the function does nothing, and
 //! its contract is the law.
 
-ghost use Rattle.mg_engine_changes.specs.RowWalks.{RowWalksGoOn};
+ghost use Rattle.mg_engine_changes.specs.rows.RowWalks.{RowWalksGoOn};
 
 /// A walk goes on over a table that shows its transaction the same.
 pub fn row_walks_go_on()

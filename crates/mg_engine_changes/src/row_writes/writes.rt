@@ -14,18 +14,18 @@
 //! each of these ways it gives the event as a keeper of records owes it (`made_rows_give`). The first batch of the last
 //! two ways leaves the engine with its history (`first_batches_stay`).
 
-ghost use Rattle.mg_engine_changes.specs.Befores.{BeforesAreTold};
-ghost use Rattle.mg_engine_changes.specs.Codes.{StoredRowsAreCoded};
-ghost use Rattle.mg_engine_changes.specs.Kept.{MadeWritesFollow};
-ghost use Rattle.mg_engine_changes.specs.Laid.{DeadsStay, EntriesStayOver, NewRowsGoOn, OverDeadRowsGoOn, PlacesStay, PushedRowsGoOn, ReadyStays, ReplacedRowsGoOn};
-ghost use Rattle.mg_engine_changes.specs.Starts.{EntriesEnter, RowsEnter, StartsStand};
-ghost use Rattle.mg_engine_changes.specs.Made.{MadeRowsGive};
-ghost use Rattle.mg_engine_changes.specs.Owners.{SeenMayBeWritten};
-ghost use Rattle.mg_engine_changes.specs.Plain.{WritesKeepPlain};
-ghost use Rattle.mg_engine_changes.specs.Refusals.{RefusalsGoOn};
-ghost use Rattle.mg_engine_changes.specs.Tips.{FirstsKeepTips, GrowthKeepsTips, MovesKeepTips, PushesKeepTips, ReplacementsKeepTips, TakingOutKeepsTips};
-ghost use Rattle.mg_engine_changes.specs.Unread.{UnreadWritesGive};
-ghost use Rattle.mg_engine_changes.specs.Ways.{WaysAreFree};
+ghost use Rattle.mg_engine_changes.specs.rows.Befores.{BeforesAreTold};
+ghost use Rattle.mg_engine_changes.specs.rows.Codes.{StoredRowsAreCoded};
+ghost use Rattle.mg_engine_changes.specs.rows.Kept.{MadeWritesFollow};
+ghost use Rattle.mg_engine_changes.specs.rows.Laid.{DeadsStay, EntriesStayOver, NewRowsGoOn, OverDeadRowsGoOn, PlacesStay, PushedRowsGoOn, ReadyStays, ReplacedRowsGoOn};
+ghost use Rattle.mg_engine_changes.specs.rows.Starts.{EntriesEnter, RowsEnter, StartsStand};
+ghost use Rattle.mg_engine_changes.specs.rows.Made.{MadeRowsGive};
+ghost use Rattle.mg_engine_changes.specs.rows.Owners.{SeenMayBeWritten};
+ghost use Rattle.mg_engine_changes.specs.rows.Plain.{WritesKeepPlain};
+ghost use Rattle.mg_engine_changes.specs.rows.Refusals.{RefusalsGoOn};
+ghost use Rattle.mg_engine_changes.specs.rows.Tips.{FirstsKeepTips, GrowthKeepsTips, MovesKeepTips, PushesKeepTips, ReplacementsKeepTips, TakingOutKeepsTips};
+ghost use Rattle.mg_engine_changes.specs.rows.Unread.{UnreadWritesGive};
+ghost use Rattle.mg_engine_changes.specs.rows.Ways.{WaysAreFree};
 ghost use Rattle.mg_image.specs.Form.{packed_form};
 
 use mg_base::Disk;

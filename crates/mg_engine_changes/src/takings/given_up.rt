@@ -10,8 +10,8 @@
 //! All stands in `specs/`: `Dying` and `GivenUp` have what counts, the other files prove it. There is no program here:
 //! each function does nothing, and its contract is a law.
 
-ghost use Rattle.mg_engine_changes.specs.Dying.{VersionsDieMidway};
-ghost use Rattle.mg_engine_changes.specs.GivenUp.{EnginesGiveUp, GivenUpIsShown};
+ghost use Rattle.mg_engine_changes.specs.given_up.Dying.{VersionsDieMidway};
+ghost use Rattle.mg_engine_changes.specs.given_up.GivenUp.{EnginesGiveUp, GivenUpIsShown};
 
 use mg_base::Disk;
 use mg_careful::Links;

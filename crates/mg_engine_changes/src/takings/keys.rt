@@ -28,13 +28,13 @@
 //! The files `..Laws` (and `specs/OthersRows`) prove these. There is no program here: each function does nothing, and its
 //! contract is a law.
 
-ghost use Rattle.mg_engine_changes.specs.BackLists.{KeysKeepLists};
-ghost use Rattle.mg_engine_changes.specs.BackPages.{KeysKeepPages};
-ghost use Rattle.mg_engine_changes.specs.BackStops.{StopsAreGivenUp, WritesFailMidway};
-ghost use Rattle.mg_engine_changes.specs.BackTables.{ItsTablesMayBeWritten};
-ghost use Rattle.mg_engine_changes.specs.BackWalks.{BackWalksGoOn, GivenUpWalksGoOn};
-ghost use Rattle.mg_engine_changes.specs.KeySteps.{KeyStepsAreTaken};
-ghost use Rattle.mg_engine_changes.specs.Written.{KeptTablesAreNamed, KeptTablesStand};
+ghost use Rattle.mg_engine_changes.specs.keys.BackLists.{KeysKeepLists};
+ghost use Rattle.mg_engine_changes.specs.keys.BackPages.{KeysKeepPages};
+ghost use Rattle.mg_engine_changes.specs.given_up.BackStops.{StopsAreGivenUp, WritesFailMidway};
+ghost use Rattle.mg_engine_changes.specs.keys.BackTables.{ItsTablesMayBeWritten};
+ghost use Rattle.mg_engine_changes.specs.keys.BackWalks.{BackWalksGoOn, GivenUpWalksGoOn};
+ghost use Rattle.mg_engine_changes.specs.keys.KeySteps.{KeyStepsAreTaken};
+ghost use Rattle.mg_engine_changes.specs.keys.Written.{KeptTablesAreNamed, KeptTablesStand};
 
 use crate::row_writes::{row_walks_go_on, writes_keep_plain, writes_keep_tips};
 use crate::{engines_give_up, its_records_are_found, keys_are_taken, keys_go_on};

@@ -1,7 +1,7 @@
 //! A transaction is taken back to a point. Each function does nothing: its contract is the laws.
 
-ghost use Rattle.mg_engine_changes.specs.Known.{KnownOfBacks};
-ghost use Rattle.mg_engine_changes.specs.Outcomes.{MarksGive, SavepointsGive, ShortMarksGive, ShortSavepointsGive};
+ghost use Rattle.mg_engine_changes.specs.backs.Known.{KnownOfBacks};
+ghost use Rattle.mg_engine_changes.specs.backs.Outcomes.{MarksGive, SavepointsGive, ShortMarksGive, ShortSavepointsGive};
 
 use crate::{
     cores_enter_some, cores_take_all, engines_go_back_to, keys_are_taken, keys_keep_lists,

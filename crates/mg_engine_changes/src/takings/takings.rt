@@ -1,10 +1,10 @@
 //! A transaction is taken back, key by key. The functions do nothing: their contracts are the laws.
 
-ghost use Rattle.mg_engine_changes.specs.BackEntries.{KeysEnterMidway};
-ghost use Rattle.mg_engine_changes.specs.EngineBacks.{EnginesGoBackTo, OthersWalkOnBack};
-ghost use Rattle.mg_engine_changes.specs.Given.{UndoListsGiveKeys};
-ghost use Rattle.mg_engine_changes.specs.Keys.{CoresEnterSome, CoresTakeAll};
-ghost use Rattle.mg_engine_changes.specs.Takings.{CoresTakeKeys};
+ghost use Rattle.mg_engine_changes.specs.entries.BackEntries.{KeysEnterMidway};
+ghost use Rattle.mg_engine_changes.specs.backs.EngineBacks.{EnginesGoBackTo, OthersWalkOnBack};
+ghost use Rattle.mg_engine_changes.specs.backs.Given.{UndoListsGiveKeys};
+ghost use Rattle.mg_engine_changes.specs.keys.Keys.{CoresEnterSome, CoresTakeAll};
+ghost use Rattle.mg_engine_changes.specs.keys.Takings.{CoresTakeKeys};
 
 use crate::row_writes::stored_rows_are_coded;
 use crate::{

@@ -11,12 +11,12 @@
 //!
 //! `ToTake`, `Steps`, `Found`, `Memory`, `BackFinds` and `Backs` of `specs/` have what counts, the other files prove it.
 
-ghost use Rattle.mg_engine_changes.specs.BackFinds.{BackFinds};
-ghost use Rattle.mg_engine_changes.specs.Backs.{BacksAreGivenUp, BacksGoOn};
-ghost use Rattle.mg_engine_changes.specs.Found.{ChangesAreThere, ItsRecordIsFound};
-ghost use Rattle.mg_engine_changes.specs.Memory.{BacksFollow};
-ghost use Rattle.mg_engine_changes.specs.TakingSteps.{KeysGoOn};
-ghost use Rattle.mg_engine_changes.specs.ToTake.{KeysAreTaken, SinceAreTaken, WasIsTold};
+ghost use Rattle.mg_engine_changes.specs.backs.BackFinds.{BackFinds};
+ghost use Rattle.mg_engine_changes.specs.backs.Backs.{BacksAreGivenUp, BacksGoOn};
+ghost use Rattle.mg_engine_changes.specs.keys.Found.{ChangesAreThere, ItsRecordIsFound};
+ghost use Rattle.mg_engine_changes.specs.backs.Memory.{BacksFollow};
+ghost use Rattle.mg_engine_changes.specs.keys.TakingSteps.{KeysGoOn};
+ghost use Rattle.mg_engine_changes.specs.backs.ToTake.{KeysAreTaken, SinceAreTaken, WasIsTold};
 
 use crate::engines_give_up;
 use mg_base::Disk;

@@ -1,5 +1,5 @@
 use Rattle.std.proofs.Common.{length}
-use Rattle.mg_engine_changes.specs.MakingSteps.{AreNamed}
+use Rattle.mg_engine_changes.specs.tables.MakingSteps.{AreNamed}
 use Rattle.mg_engine.proofs.making.note_columns.Given as goal
 
 abbrev pub invariant-loop-column : goal.invariant-loop-column

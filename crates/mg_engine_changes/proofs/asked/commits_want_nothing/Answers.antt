@@ -1,4 +1,4 @@
-use Rattle.mg_engine_changes.specs.AskedLaws.{asking_takes, commits_take, page_writes_take, rollbacks_take, steps_take}
+use Rattle.mg_engine_changes.specs.faults.AskedLaws.{asking_takes, commits_take, page_writes_take, rollbacks_take, steps_take}
 use Rattle.mg_engine_changes.proofs.asked.commits_want_nothing.Goals as goal
 
 pub returns-clause-asking : goal.returns-clause-asking

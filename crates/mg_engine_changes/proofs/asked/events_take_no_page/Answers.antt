@@ -1,4 +1,4 @@
-use Rattle.mg_engine_changes.specs.AskedLaws.{founds_take, looks_take, points_take}
+use Rattle.mg_engine_changes.specs.faults.AskedLaws.{founds_take, looks_take, points_take}
 use Rattle.mg_engine_changes.proofs.asked.events_take_no_page.Goals as goal
 
 pub returns-clause-looks : goal.returns-clause-looks

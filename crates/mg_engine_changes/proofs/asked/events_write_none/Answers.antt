@@ -1,4 +1,4 @@
-use Rattle.mg_engine_changes.specs.AskedLaws.{looks_ask, points_ask, rollbacks_ask, waits_ask}
+use Rattle.mg_engine_changes.specs.faults.AskedLaws.{looks_ask, points_ask, rollbacks_ask, waits_ask}
 use Rattle.mg_engine_changes.proofs.asked.events_write_none.Goals as goal
 
 pub returns-clause-looks : goal.returns-clause-looks

@@ -1,4 +1,4 @@
-use Rattle.mg_engine_changes.specs.AskedLaws.{asking_asks, page_writes_ask, steps_ask}
+use Rattle.mg_engine_changes.specs.faults.AskedLaws.{asking_asks, page_writes_ask, steps_ask}
 use Rattle.mg_engine_changes.proofs.asked.page_writes_ask_one.Goals as goal
 
 pub returns-clause-asking : goal.returns-clause-asking

@@ -1,4 +1,4 @@
-use Rattle.mg_engine_changes.specs.AskedLaws.{tables_ask, walks_ask}
+use Rattle.mg_engine_changes.specs.faults.AskedLaws.{tables_ask, walks_ask}
 use Rattle.mg_engine_changes.proofs.asked.readings_write_none.Goals as goal
 
 pub returns-clause-tables : goal.returns-clause-tables

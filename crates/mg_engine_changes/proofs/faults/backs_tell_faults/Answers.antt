@@ -1,4 +1,4 @@
-use Rattle.mg_engine_changes.specs.FaultCallLaws.{marks_tell, savepoints_tell, table_marks_tell, table_savepoints_tell}
+use Rattle.mg_engine_changes.specs.faults.FaultCallLaws.{marks_tell, savepoints_tell, table_marks_tell, table_savepoints_tell}
 use Rattle.mg_engine_changes.proofs.faults.backs_tell_faults.Goals as goal
 
 pub returns-clause-marks : goal.returns-clause-marks

@@ -1,4 +1,4 @@
-use Rattle.mg_engine_changes.specs.FaultCallLaws.{begins_tell}
+use Rattle.mg_engine_changes.specs.faults.FaultCallLaws.{begins_tell}
 use Rattle.mg_engine_changes.proofs.faults.begins_tell_faults.Goals as goal
 
 pub returns : goal.returns

@@ -1,4 +1,4 @@
-use Rattle.mg_engine_changes.specs.FaultCallLaws.{makings_tell, writes_tell}
+use Rattle.mg_engine_changes.specs.faults.FaultCallLaws.{makings_tell, writes_tell}
 use Rattle.mg_engine_changes.proofs.faults.changes_tell_faults.Goals as goal
 
 pub returns-clause-writes : goal.returns-clause-writes

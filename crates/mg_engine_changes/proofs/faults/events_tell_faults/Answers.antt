@@ -1,4 +1,4 @@
-use Rattle.mg_engine_changes.specs.FaultCallLaws.{events_tell, points_tell, rollbacks_tell, waits_tell}
+use Rattle.mg_engine_changes.specs.faults.FaultCallLaws.{events_tell, points_tell, rollbacks_tell, waits_tell}
 use Rattle.mg_engine_changes.proofs.faults.events_tell_faults.Goals as goal
 
 pub returns-clause-waits : goal.returns-clause-waits

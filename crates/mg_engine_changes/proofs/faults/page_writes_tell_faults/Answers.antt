@@ -1,4 +1,4 @@
-use Rattle.mg_engine_changes.specs.FaultCallLaws.{asks_tell, page_writes_tell, steps_tell}
+use Rattle.mg_engine_changes.specs.faults.FaultCallLaws.{asks_tell, page_writes_tell, steps_tell}
 use Rattle.mg_engine_changes.proofs.faults.page_writes_tell_faults.Goals as goal
 
 pub returns-clause-asks : goal.returns-clause-asks

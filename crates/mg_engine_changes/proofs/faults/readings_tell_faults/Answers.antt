@@ -1,4 +1,4 @@
-use Rattle.mg_engine_changes.specs.FaultCallLaws.{tables_tell, walks_tell}
+use Rattle.mg_engine_changes.specs.faults.FaultCallLaws.{tables_tell, walks_tell}
 use Rattle.mg_engine_changes.proofs.faults.readings_tell_faults.Goals as goal
 
 pub returns-clause-tables : goal.returns-clause-tables

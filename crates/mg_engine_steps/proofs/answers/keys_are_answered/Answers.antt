@@ -1,4 +1,4 @@
-use Rattle.mg_engine_steps.specs.KeyAnswers.{nothing_at_keys, obstacles_at_keys, rows_at_keys, speakers_told}
+use Rattle.mg_engine_steps.specs.reads.KeyAnswers.{nothing_at_keys, obstacles_at_keys, rows_at_keys, speakers_told}
 use Rattle.mg_engine_steps.proofs.answers.keys_are_answered.Goals as goal
 
 pub returns-clause-speakers : goal.returns-clause-speakers

@@ -1,4 +1,4 @@
-use Rattle.mg_engine_steps.specs.TableAnswers.{tables_told}
+use Rattle.mg_engine_steps.specs.reads.TableAnswers.{tables_told}
 use Rattle.mg_engine_steps.proofs.answers.tables_are_answered.Goals as goal
 
 pub returns : goal.returns

@@ -1,4 +1,4 @@
-use Rattle.mg_engine_steps.specs.WalkAnswers.{walks_begin, walks_go_on}
+use Rattle.mg_engine_steps.specs.reads.WalkAnswers.{walks_begin, walks_go_on}
 use Rattle.mg_engine_steps.proofs.answers.walks_are_answered.Goals as goal
 
 pub returns-clause-begin : goal.returns-clause-begin

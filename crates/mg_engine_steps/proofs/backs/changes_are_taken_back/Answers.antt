@@ -1,9 +1,9 @@
 use Rattle.std.proofs.Common.{refl}
 use Rattle.mg_image.specs.Form.{packed_form}
-use Rattle.mg_engine_steps.specs.BackLaws.{keys_come_back}
-use Rattle.mg_engine_steps.specs.GivenUp.{midways_are_given_up}
-use Rattle.mg_engine_steps.specs.MidwayLaws.{midways_begin, midways_end}
-use Rattle.mg_engine_steps.specs.OutLaws.{keys_go_out}
+use Rattle.mg_engine_steps.specs.backs.BackLaws.{keys_come_back}
+use Rattle.mg_engine_steps.specs.backs.GivenUp.{midways_are_given_up}
+use Rattle.mg_engine_steps.specs.backs.MidwayLaws.{midways_begin, midways_end}
+use Rattle.mg_engine_steps.specs.backs.OutLaws.{keys_go_out}
 use Rattle.mg_engine_steps.proofs.backs.changes_are_taken_back.Goals as goal
 
 pub returns-clause-begin : goal.returns-clause-begin

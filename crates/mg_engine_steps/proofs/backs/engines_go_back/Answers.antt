@@ -1,5 +1,5 @@
 use Rattle.mg_image.specs.Form.{packed_form}
-use Rattle.mg_engine_steps.specs.EngineBack.{engines_go_back}
+use Rattle.mg_engine_steps.specs.backs.EngineBack.{engines_go_back}
 use Rattle.mg_engine_steps.proofs.backs.engines_go_back.Goals as goal
 
 pub returns : goal.returns

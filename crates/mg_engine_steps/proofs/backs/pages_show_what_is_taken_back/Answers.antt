@@ -1,6 +1,6 @@
 use Rattle.mg_image.specs.Form.{packed_form}
-use Rattle.mg_engine_steps.specs.ShownEnd.{pages_back, pages_first}
-use Rattle.mg_engine_steps.specs.ShownSteps.{pages_onward}
+use Rattle.mg_engine_steps.specs.backs.ShownEnd.{pages_back, pages_first}
+use Rattle.mg_engine_steps.specs.backs.ShownSteps.{pages_onward}
 use Rattle.mg_engine_steps.proofs.backs.pages_show_what_is_taken_back.Goals as goal
 
 pub returns-clause-first : goal.returns-clause-first

@@ -1,4 +1,4 @@
-use Rattle.mg_engine_steps.specs.RowsTakenLaws.{rows_are_taken}
+use Rattle.mg_engine_steps.specs.tables_back.RowsTakenLaws.{rows_are_taken}
 use Rattle.mg_engine_steps.proofs.batches.rows_are_taken.Goals as goal
 
 pub returns : goal.returns

@@ -1,6 +1,6 @@
 use Rattle.std.proofs.Common.{refl}
 use Rattle.mg_image.specs.Form.{packed_form}
-use Rattle.mg_engine_steps.specs.OutsLaws.{row_away_keeps}
+use Rattle.mg_engine_steps.specs.tables_back.OutsLaws.{row_away_keeps}
 use Rattle.mg_engine_steps.proofs.batches.rows_away_keep.Goals as goal
 
 pub returns : goal.returns

@@ -1,6 +1,6 @@
 use Rattle.std.proofs.Common.{refl}
 use Rattle.mg_image.specs.Form.{packed_form}
-use Rattle.mg_engine_steps.specs.OutsThereLaws.{outs_there}
+use Rattle.mg_engine_steps.specs.tables_back.OutsThereLaws.{outs_there}
 use Rattle.mg_engine_steps.proofs.batches.taken_tables_are_there.Goals as goal
 
 pub returns : goal.returns

@@ -2,8 +2,8 @@ use Rattle.mg_image.specs.Form.{packed_form}
 use Rattle.mg_lasting.specs.CommitLaws.{goes_midway}
 use Rattle.mg_lasting.specs.CrashLaws.{failed_leaves, midway_holds_from}
 use Rattle.mg_lasting.specs.PoolLaws.{pool_leaves, runs_last}
-use Rattle.mg_engine_steps.specs.FailLaws.{commits_fail}
-use Rattle.mg_engine_steps.specs.PageWriteLaws.{page_writes_fail}
+use Rattle.mg_engine_steps.specs.commits.FailLaws.{commits_fail}
+use Rattle.mg_engine_steps.specs.commits.PageWriteLaws.{page_writes_fail}
 use Rattle.mg_engine_steps.proofs.commits.commits_fail.Goals as goal
 
 pub returns : goal.returns

@@ -2,8 +2,8 @@ use Rattle.mg_image.specs.Form.{packed_form}
 use Rattle.mg_lasting.specs.CommitLaws.{goes_midway}
 use Rattle.mg_lasting.specs.SettlingLaws.{settling_lasts}
 use Rattle.mg_lasting.specs.StepLaws.{asking_lasts}
-use Rattle.mg_engine_steps.specs.QuietLaws.{commit_shows}
-use Rattle.mg_engine_steps.specs.CommitLaws.{commits_go_on}
+use Rattle.mg_engine_steps.specs.standing.QuietLaws.{commit_shows}
+use Rattle.mg_engine_steps.specs.commits.CommitLaws.{commits_go_on}
 use Rattle.mg_engine_steps.proofs.commits.commits_go_on.Goals as goal
 
 pub returns : goal.returns

@@ -1,6 +1,6 @@
 use Rattle.mg_image.specs.Form.{packed_form}
-use Rattle.mg_engine_steps.specs.DrawnLists.{draws_keep_list}
-use Rattle.mg_engine_steps.specs.ListShows.{lists_stay}
+use Rattle.mg_engine_steps.specs.commits.DrawnLists.{draws_keep_list}
+use Rattle.mg_engine_steps.specs.commits.ListShows.{lists_stay}
 use Rattle.mg_engine_steps.proofs.commits.lists_go_on.Goals as goal
 
 pub returns-clause-stay : goal.returns-clause-stay

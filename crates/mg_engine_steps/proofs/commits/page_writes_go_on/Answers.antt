@@ -1,7 +1,7 @@
 use Rattle.mg_image.specs.Form.{packed_form}
 use Rattle.mg_lasting.specs.PoolLaws.{pool_leaves, runs_last}
 use Rattle.mg_lasting.specs.StepLaws.{asking_lasts}
-use Rattle.mg_engine_steps.specs.PageWriteLaws.{asking_goes_on, asks_otherwise, page_writes_fail, page_writes_go_on}
+use Rattle.mg_engine_steps.specs.commits.PageWriteLaws.{asking_goes_on, asks_otherwise, page_writes_fail, page_writes_go_on}
 use Rattle.mg_engine_steps.proofs.commits.page_writes_go_on.Goals as goal
 
 pub returns-clause-otherwise : goal.returns-clause-otherwise

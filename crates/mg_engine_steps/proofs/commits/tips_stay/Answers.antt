@@ -1,5 +1,5 @@
 use Rattle.mg_image.specs.Form.{packed_form}
-use Rattle.mg_engine_steps.specs.ListShows.{behind_keeps_tips, data_keeps_tips, tips_stay_on}
+use Rattle.mg_engine_steps.specs.commits.ListShows.{behind_keeps_tips, data_keeps_tips, tips_stay_on}
 use Rattle.mg_engine_steps.proofs.commits.tips_stay.Goals as goal
 
 pub returns-clause-data : goal.returns-clause-data

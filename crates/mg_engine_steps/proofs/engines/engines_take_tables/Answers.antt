@@ -1,4 +1,4 @@
-use Rattle.mg_engine_steps.specs.EngineTablesLaws.{engines_take_tables}
+use Rattle.mg_engine_steps.specs.tables_back.EngineTablesLaws.{engines_take_tables}
 use Rattle.mg_engine_steps.proofs.engines.engines_take_tables.Goals as goal
 
 pub returns : goal.returns

@@ -1,10 +1,10 @@
 use Rattle.mg_image.specs.Form.{packed_form}
 use Rattle.mg_lasting.specs.ChangingLaws.{changes_last, quiet_holds}
 use Rattle.mg_lasting.specs.StepLaws.{begins_first}
-use Rattle.mg_engine_steps.specs.QuietLaws.{begin_shows}
+use Rattle.mg_engine_steps.specs.standing.QuietLaws.{begin_shows}
 use Rattle.mg_ties.specs.DrawTies.{draw_row_keeps}
-use Rattle.mg_engine_steps.specs.BatchLaws.{batches_last}
-use Rattle.mg_engine_steps.specs.BeginLaws.{begins_go_on}
+use Rattle.mg_engine_steps.specs.writes.BatchLaws.{batches_last}
+use Rattle.mg_engine_steps.specs.commits.BeginLaws.{begins_go_on}
 use Rattle.mg_engine_steps.proofs.entries.begins_go_on.Goals as goal
 
 pub returns : goal.returns

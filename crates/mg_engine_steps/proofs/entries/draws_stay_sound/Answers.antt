@@ -1,5 +1,5 @@
 use Rattle.mg_image.specs.Form.{packed_form}
-use Rattle.mg_engine_steps.specs.BeginLaws.{draws_stay_sound}
+use Rattle.mg_engine_steps.specs.commits.BeginLaws.{draws_stay_sound}
 use Rattle.mg_engine_steps.proofs.entries.draws_stay_sound.Goals as goal
 
 pub returns : goal.returns

@@ -1,8 +1,8 @@
 use Rattle.mg_image.specs.Form.{packed_form}
 use Rattle.mg_lasting.specs.ChangingLaws.{quiet_holds}
 use Rattle.mg_lasting.specs.StepLaws.{idle_lasts, rollback_lasts}
-use Rattle.mg_engine_steps.specs.QuietLaws.{idle_shows}
-use Rattle.mg_engine_steps.specs.IdleLaws.{idle_goes_on, rollback_lasts_on}
+use Rattle.mg_engine_steps.specs.standing.QuietLaws.{idle_shows}
+use Rattle.mg_engine_steps.specs.commits.IdleLaws.{idle_goes_on, rollback_lasts_on}
 use Rattle.mg_engine_steps.proofs.entries.entries_go_on.Goals as goal
 
 pub returns-clause-idle : goal.returns-clause-idle

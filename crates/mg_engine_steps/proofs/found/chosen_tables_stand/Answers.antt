@@ -1,4 +1,4 @@
-use Rattle.mg_engine_steps.specs.ChosenTables.{chosen_tables_stand}
+use Rattle.mg_engine_steps.specs.tables.ChosenTables.{chosen_tables_stand}
 use Rattle.mg_engine_steps.proofs.found.chosen_tables_stand.Goals as goal
 
 pub returns : goal.returns

@@ -1,4 +1,4 @@
-use Rattle.mg_engine_steps.specs.FoundWhole.{found_tables_stand}
+use Rattle.mg_engine_steps.specs.tables.FoundWhole.{found_tables_stand}
 use Rattle.mg_engine_steps.proofs.found.found_tables_stand.Goals as goal
 
 pub returns : goal.returns

@@ -1,5 +1,5 @@
 use Rattle.mg_image.specs.Form.{packed_form}
-use Rattle.mg_engine_steps.specs.WrittenTablePagesLaws.{firsts_keep_pages, moves_keep_pages, pages_are_kept_on, pushes_keep_pages, replacements_keep_pages, taking_out_keeps_pages}
+use Rattle.mg_engine_steps.specs.writes.WrittenTablePagesLaws.{firsts_keep_pages, moves_keep_pages, pages_are_kept_on, pushes_keep_pages, replacements_keep_pages, taking_out_keeps_pages}
 use Rattle.mg_engine_steps.proofs.fronts.tables_keep_pages.Goals as goal
 
 pub returns-clause-pushes : goal.returns-clause-pushes

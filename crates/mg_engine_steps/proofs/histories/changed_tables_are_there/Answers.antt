@@ -1,4 +1,4 @@
-use Rattle.mg_engine_steps.specs.ChangedTablesLaws.{changed_are_there, none_of_gone}
+use Rattle.mg_engine_steps.specs.tables_back.ChangedTablesLaws.{changed_are_there, none_of_gone}
 use Rattle.mg_engine_steps.proofs.histories.changed_tables_are_there.Goals as goal
 
 pub returns-clause-there : goal.returns-clause-there

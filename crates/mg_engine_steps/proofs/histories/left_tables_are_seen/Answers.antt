@@ -1,4 +1,4 @@
-use Rattle.mg_engine_steps.specs.ShapesLeftLaws.{shapes_left}
+use Rattle.mg_engine_steps.specs.tables_back.ShapesLeftLaws.{shapes_left}
 use Rattle.mg_engine_steps.proofs.histories.left_tables_are_seen.Goals as goal
 
 pub returns : goal.returns

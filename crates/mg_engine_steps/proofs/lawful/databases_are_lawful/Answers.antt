@@ -1,4 +1,4 @@
-use Rattle.mg_engine_steps.specs.LawfulLaws.{databases_are_lawful}
+use Rattle.mg_engine_steps.specs.tables.LawfulLaws.{databases_are_lawful}
 use Rattle.mg_engine_steps.proofs.lawful.databases_are_lawful.Goals as goal
 
 pub returns : goal.returns

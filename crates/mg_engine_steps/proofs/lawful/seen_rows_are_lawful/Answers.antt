@@ -1,4 +1,4 @@
-use Rattle.mg_engine_steps.specs.LawfulLaws.{seen_rows_are_lawful}
+use Rattle.mg_engine_steps.specs.tables.LawfulLaws.{seen_rows_are_lawful}
 use Rattle.mg_engine_steps.proofs.lawful.seen_rows_are_lawful.Goals as goal
 
 pub returns : goal.returns

@@ -1,6 +1,6 @@
 use Rattle.mg_image.specs.Form.{packed_form}
-use Rattle.mg_engine_steps.specs.TakenKept.{left_are_kept}
-use Rattle.mg_engine_steps.specs.TakenSound.{left_are_sound}
+use Rattle.mg_engine_steps.specs.tables_back.TakenKept.{left_are_kept}
+use Rattle.mg_engine_steps.specs.tables_back.TakenSound.{left_are_sound}
 use Rattle.mg_engine_steps.proofs.pages.left_tables_stand.Goals as goal
 
 pub returns-clause-sound : goal.returns-clause-sound

@@ -1,5 +1,5 @@
 use Rattle.mg_image.specs.Form.{packed_form}
-use Rattle.mg_engine_steps.specs.WholeLaws.{gone_are_whole}
+use Rattle.mg_engine_steps.specs.tables_back.WholeLaws.{gone_are_whole}
 use Rattle.mg_engine_steps.proofs.rows.gone_tables_are_whole.Goals as goal
 
 pub returns : goal.returns

@@ -1,4 +1,4 @@
-use Rattle.mg_engine_steps.specs.SeenLaws.{newest_is_seen}
+use Rattle.mg_engine_steps.specs.tables.SeenLaws.{newest_is_seen}
 use Rattle.mg_engine_steps.proofs.seen.newest_are_seen.Goals as goal
 
 pub returns : goal.returns

@@ -1,4 +1,4 @@
-use Rattle.mg_engine_steps.specs.LeftShows.{shows_left}
+use Rattle.mg_engine_steps.specs.tables_back.LeftShows.{shows_left}
 use Rattle.mg_engine_steps.proofs.shown.left_tables_are_shown.Goals as goal
 
 pub returns : goal.returns

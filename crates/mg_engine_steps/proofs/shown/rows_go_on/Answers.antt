@@ -1,5 +1,5 @@
 use Rattle.std.proofs.Common.{refl}
-use Rattle.mg_engine_steps.specs.TablesBackLaws.{rows_go_on}
+use Rattle.mg_engine_steps.specs.tables_back.TablesBackLaws.{rows_go_on}
 use Rattle.mg_engine_steps.proofs.shown.rows_go_on.Goals as goal
 
 pub returns : goal.returns

@@ -1,4 +1,4 @@
-use Rattle.mg_engine_steps.specs.TablesBackLaws.{tables_are_taken, tables_go_back}
+use Rattle.mg_engine_steps.specs.tables_back.TablesBackLaws.{tables_are_taken, tables_go_back}
 use Rattle.mg_engine_steps.proofs.shown.tables_go_back.Goals as goal
 
 pub returns-clause-back : goal.returns-clause-back

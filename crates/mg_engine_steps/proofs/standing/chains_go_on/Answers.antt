@@ -1,4 +1,4 @@
-use Rattle.mg_engine_steps.specs.ChainLaws.{stand_goes_on}
+use Rattle.mg_engine_steps.specs.standing.ChainLaws.{stand_goes_on}
 use Rattle.mg_engine_steps.proofs.standing.chains_go_on.Goals as goal
 
 pub returns : goal.returns

@@ -1,5 +1,5 @@
-use Rattle.mg_engine_steps.specs.BasedLaws.{based_follow}
-use Rattle.mg_engine_steps.specs.MemoryLaws.{memory_begins, memory_follows, others_keep_tables}
+use Rattle.mg_engine_steps.specs.standing.BasedLaws.{based_follow}
+use Rattle.mg_engine_steps.specs.standing.MemoryLaws.{memory_begins, memory_follows, others_keep_tables}
 use Rattle.mg_engine_steps.proofs.standing.memory_follows.Goals as goal
 
 pub returns-clause-begins : goal.returns-clause-begins

@@ -1,6 +1,6 @@
 use Rattle.mg_image.specs.Form.{packed_form}
-use Rattle.mg_engine_steps.specs.EndingLaws.{writes_show}
-use Rattle.mg_engine_steps.specs.ShowsLaws.{shows_on}
+use Rattle.mg_engine_steps.specs.standing.EndingLaws.{writes_show}
+use Rattle.mg_engine_steps.specs.standing.ShowsLaws.{shows_on}
 use Rattle.mg_engine_steps.proofs.standing.pages_go_on.Goals as goal
 
 pub returns-clause-unchanged : goal.returns-clause-unchanged

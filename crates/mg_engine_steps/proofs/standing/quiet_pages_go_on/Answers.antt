@@ -1,5 +1,5 @@
 use Rattle.mg_image.specs.Form.{packed_form}
-use Rattle.mg_engine_steps.specs.QuietLaws.{begin_shows, commit_shows, idle_shows}
+use Rattle.mg_engine_steps.specs.standing.QuietLaws.{begin_shows, commit_shows, idle_shows}
 use Rattle.mg_engine_steps.proofs.standing.quiet_pages_go_on.Goals as goal
 
 pub returns-clause-idle : goal.returns-clause-idle

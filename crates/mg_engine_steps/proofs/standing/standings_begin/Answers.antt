@@ -1,5 +1,5 @@
 use Rattle.mg_image.specs.Form.{packed_form}
-use Rattle.mg_engine_steps.specs.StartLaws.{stands_first}
+use Rattle.mg_engine_steps.specs.standing.StartLaws.{stands_first}
 use Rattle.mg_engine_steps.proofs.standing.standings_begin.Goals as goal
 
 pub returns : goal.returns

@@ -1,5 +1,5 @@
 use Rattle.mg_image.specs.Form.{packed_form}
-use Rattle.mg_engine_steps.specs.StandsLaws.{stands_on}
+use Rattle.mg_engine_steps.specs.standing.StandsLaws.{stands_on}
 use Rattle.mg_engine_steps.proofs.standing.standings_go_on.Goals as goal
 
 pub returns : goal.returns

@@ -1,6 +1,6 @@
-use Rattle.mg_engine_steps.specs.EndingLaws.{versions_die}
-use Rattle.mg_engine_steps.specs.VersionsLaws.{versions_follow, versions_stay}
-use Rattle.mg_engine_steps.specs.WritingLaws.{erased_may_be_silent, writes_follow}
+use Rattle.mg_engine_steps.specs.standing.EndingLaws.{versions_die}
+use Rattle.mg_engine_steps.specs.standing.VersionsLaws.{versions_follow, versions_stay}
+use Rattle.mg_engine_steps.specs.standing.WritingLaws.{erased_may_be_silent, writes_follow}
 use Rattle.mg_engine_steps.proofs.standing.versions_go_on.Goals as goal
 
 pub returns-clause-follow : goal.returns-clause-follow

@@ -1,7 +1,7 @@
 use Rattle.mg_image.specs.Form.{packed_form}
 use Rattle.mg_lasting.specs.ChangingLaws.{changes_last, quiet_holds}
-use Rattle.mg_engine_steps.specs.BatchLaws.{batches_last, pool_bits_are, reads_last, rows_last, rows_last_still}
-use Rattle.mg_engine_steps.specs.GoesOnLaws.{pool_is_kept}
+use Rattle.mg_engine_steps.specs.writes.BatchLaws.{batches_last, pool_bits_are, reads_last, rows_last, rows_last_still}
+use Rattle.mg_engine_steps.specs.writes.GoesOnLaws.{pool_is_kept}
 use Rattle.mg_engine_steps.proofs.steps.batches_last.Goals as goal
 
 pub returns-clause-bits : goal.returns-clause-bits

@@ -1,5 +1,5 @@
 use Rattle.mg_image.specs.Form.{packed_form}
-use Rattle.mg_engine_steps.specs.GoesOnLaws.{firsts_are_read, moves_are_read, pushes_are_read, replacements_are_read, taking_out_is_read}
+use Rattle.mg_engine_steps.specs.writes.GoesOnLaws.{firsts_are_read, moves_are_read, pushes_are_read, replacements_are_read, taking_out_is_read}
 use Rattle.mg_engine_steps.proofs.steps.records_are_read.Goals as goal
 
 pub returns-clause-pushes : goal.returns-clause-pushes

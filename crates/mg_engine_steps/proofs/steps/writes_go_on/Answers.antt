@@ -1,7 +1,7 @@
 use Rattle.mg_image.specs.Form.{packed_form}
 use Rattle.mg_lasting.specs.ChangingLaws.{changes_last, quiet_holds}
-use Rattle.mg_engine_steps.specs.BatchLaws.{batches_last, rows_last}
-use Rattle.mg_engine_steps.specs.GoesOnLaws.{writes_go_on}
+use Rattle.mg_engine_steps.specs.writes.BatchLaws.{batches_last, rows_last}
+use Rattle.mg_engine_steps.specs.writes.GoesOnLaws.{writes_go_on}
 use Rattle.mg_engine_steps.proofs.steps.writes_go_on.Goals as goal
 
 pub returns : goal.returns

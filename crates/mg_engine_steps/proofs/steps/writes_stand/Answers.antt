@@ -1,5 +1,5 @@
 use Rattle.mg_image.specs.Form.{packed_form}
-use Rattle.mg_engine_steps.specs.WritesLaws.{writes_show_on, writes_stand}
+use Rattle.mg_engine_steps.specs.writes.WritesLaws.{writes_show_on, writes_stand}
 use Rattle.mg_engine_steps.proofs.steps.writes_stand.Goals as goal
 
 pub returns-clause-pages : goal.returns-clause-pages

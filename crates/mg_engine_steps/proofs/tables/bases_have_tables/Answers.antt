@@ -1,4 +1,4 @@
-use Rattle.mg_engine_steps.specs.FindingLaws.{begin_has_tables, look_has_tables}
+use Rattle.mg_engine_steps.specs.tables.FindingLaws.{begin_has_tables, look_has_tables}
 use Rattle.mg_engine_steps.proofs.tables.bases_have_tables.Goals as goal
 
 pub returns-clause-begin : goal.returns-clause-begin

@@ -1,5 +1,5 @@
-use Rattle.mg_engine_steps.specs.NamedTables.{named_tables_stand}
-use Rattle.mg_engine_steps.specs.SeenTables.{database_tables_stand, newly_seen_tables_stand, seen_tables_stand}
+use Rattle.mg_engine_steps.specs.tables.NamedTables.{named_tables_stand}
+use Rattle.mg_engine_steps.specs.tables.SeenTables.{database_tables_stand, newly_seen_tables_stand, seen_tables_stand}
 use Rattle.mg_engine_steps.proofs.tables.named_tables_stand.Goals as goal
 
 pub returns-clause-named : goal.returns-clause-named

@@ -1,4 +1,4 @@
-use Rattle.mg_engine_steps.specs.FindingLaws.{begin_finds, commit_finds, idle_finds, look_finds}
+use Rattle.mg_engine_steps.specs.tables.FindingLaws.{begin_finds, commit_finds, idle_finds, look_finds}
 use Rattle.mg_engine_steps.proofs.tables.tables_are_found.Goals as goal
 
 pub returns-clause-begin : goal.returns-clause-begin

@@ -1,4 +1,4 @@
-use Rattle.mg_engine_steps.specs.TakesLaws.{others_take_alike}
+use Rattle.mg_engine_steps.specs.reads.TakesLaws.{others_take_alike}
 use Rattle.mg_engine_steps.proofs.walks.others_take_alike.Goals as goal
 
 pub returns : goal.returns

@@ -1,4 +1,4 @@
-use Rattle.mg_engine_steps.specs.WalksLaws.{walks_go_alike, walks_stay_over}
+use Rattle.mg_engine_steps.specs.reads.WalksLaws.{walks_go_alike, walks_stay_over}
 use Rattle.mg_engine_steps.proofs.walks.walks_go_alike.Goals as goal
 
 pub returns-clause-alike : goal.returns-clause-alike

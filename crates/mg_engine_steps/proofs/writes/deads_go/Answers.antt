@@ -1,6 +1,6 @@
 use Rattle.std.proofs.Common.{refl}
 use Rattle.mg_image.specs.Form.{packed_form}
-use Rattle.mg_engine_steps.specs.DeadLaws.{deads_go}
+use Rattle.mg_engine_steps.specs.backs.DeadLaws.{deads_go}
 use Rattle.mg_engine_steps.proofs.writes.deads_go.Goals as goal
 
 pub returns : goal.returns

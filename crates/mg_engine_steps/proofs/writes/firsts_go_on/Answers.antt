@@ -1,5 +1,5 @@
 use Rattle.mg_image.specs.Form.{packed_form}
-use Rattle.mg_engine_steps.specs.FirstLaws.{firsts_go_on}
+use Rattle.mg_engine_steps.specs.writes.FirstLaws.{firsts_go_on}
 use Rattle.mg_engine_steps.proofs.writes.firsts_go_on.Goals as goal
 
 pub returns : goal.returns

@@ -1,5 +1,5 @@
 use Rattle.mg_image.specs.Form.{packed_form}
-use Rattle.mg_engine_steps.specs.PushLaws.{pushes_go_on}
+use Rattle.mg_engine_steps.specs.writes.PushLaws.{pushes_go_on}
 use Rattle.mg_engine_steps.proofs.writes.pushes_go_on.Goals as goal
 
 pub returns : goal.returns

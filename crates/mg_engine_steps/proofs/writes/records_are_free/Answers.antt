@@ -1,4 +1,4 @@
-use Rattle.mg_engine_steps.specs.Free.{records_are_free}
+use Rattle.mg_engine_steps.specs.writes.Free.{records_are_free}
 use Rattle.mg_engine_steps.proofs.writes.records_are_free.Goals as goal
 
 pub returns : goal.returns

@@ -1,6 +1,6 @@
 use Rattle.std.proofs.Common.{refl}
 use Rattle.mg_image.specs.Form.{packed_form}
-use Rattle.mg_engine_steps.specs.OwnLaws.{replacements_go_on}
+use Rattle.mg_engine_steps.specs.writes.OwnLaws.{replacements_go_on}
 use Rattle.mg_engine_steps.proofs.writes.replacements_go_on.Goals as goal
 
 pub returns : goal.returns

@@ -1,5 +1,5 @@
 use Rattle.mg_image.specs.Form.{packed_form}
-use Rattle.mg_engine_steps.specs.SpotLaws.{spots_stay}
+use Rattle.mg_engine_steps.specs.writes.SpotLaws.{spots_stay}
 use Rattle.mg_engine_steps.proofs.writes.spots_stay.Goals as goal
 
 pub returns : goal.returns

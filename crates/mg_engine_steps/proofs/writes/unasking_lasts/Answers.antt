@@ -1,6 +1,6 @@
 use Rattle.mg_image.specs.Form.{packed_form}
 use Rattle.mg_lasting.specs.StepLaws.{asking_lasts}
-use Rattle.mg_engine_steps.specs.Unasked.{unasking_lasts}
+use Rattle.mg_engine_steps.specs.commits.Unasked.{unasking_lasts}
 use Rattle.mg_engine_steps.proofs.writes.unasking_lasts.Goals as goal
 
 pub returns : goal.returns

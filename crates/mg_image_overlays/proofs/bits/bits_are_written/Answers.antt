@@ -1,7 +1,7 @@
 use Rattle.std.proofs.Common.{◌∷◌}
 use Rattle.mg_image.specs.Form.{packed_form}
-use Rattle.mg_image_overlays.specs.KeptImages.{keeping}
-use Rattle.mg_image_overlays.specs.MidwayLaws.{midway_writes, midway_written}
+use Rattle.mg_image_overlays.specs.kept.KeptImages.{keeping}
+use Rattle.mg_image_overlays.specs.transactions.MidwayLaws.{midway_writes, midway_written}
 use Rattle.mg_image_overlays.proofs.bits.bits_are_written.Goals as goal
 
 pub returns-clause-others : goal.returns-clause-others

@@ -1,5 +1,5 @@
 use Rattle.mg_image.specs.Form.{packed_form}
-use Rattle.mg_image_overlays.specs.FirstGrown.{add_grown_every}
+use Rattle.mg_image_overlays.specs.tables.FirstGrown.{add_grown_every}
 use Rattle.mg_image_overlays.proofs.grown.first_versions_grow.Goals as goal
 
 pub returns : goal.returns

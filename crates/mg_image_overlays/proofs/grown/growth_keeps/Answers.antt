@@ -1,5 +1,5 @@
 use Rattle.mg_image.specs.Form.{packed_form}
-use Rattle.mg_image_overlays.specs.GrowthEvery.{growth_every}
+use Rattle.mg_image_overlays.specs.tables.GrowthEvery.{growth_every}
 use Rattle.mg_image_overlays.proofs.grown.growth_keeps.Goals as goal
 
 pub returns : goal.returns

@@ -1,5 +1,5 @@
 use Rattle.mg_image.specs.Form.{packed_form}
-use Rattle.mg_image_overlays.specs.MoveGrown.{move_grown_every}
+use Rattle.mg_image_overlays.specs.tables.MoveGrown.{move_grown_every}
 use Rattle.mg_image_overlays.proofs.grown.moves_grow.Goals as goal
 
 pub returns : goal.returns

@@ -1,5 +1,5 @@
 use Rattle.mg_image.specs.Form.{packed_form}
-use Rattle.mg_image_overlays.specs.HeldSome.{sound_holds, sound_opens}
+use Rattle.mg_image_overlays.specs.kept.HeldSome.{sound_holds, sound_opens}
 use Rattle.mg_image_overlays.proofs.held.sound_images_hold.Goals as goal
 
 pub returns-clause-by_state : goal.returns-clause-by_state

@@ -1,5 +1,5 @@
 use Rattle.mg_image.specs.Form.{packed_form}
-use Rattle.mg_image_overlays.specs.EndLaws.{begin_every, rollback_every}
+use Rattle.mg_image_overlays.specs.transactions.EndLaws.{begin_every, rollback_every}
 use Rattle.mg_image_overlays.proofs.kept.active_ones_begin_and_end.Goals as goal
 
 pub returns-clause-begins : goal.returns-clause-begins

@@ -1,5 +1,5 @@
 use Rattle.mg_image.specs.Form.{packed_form}
-use Rattle.mg_image_overlays.specs.CommitLaws.{commit_every}
+use Rattle.mg_image_overlays.specs.transactions.CommitLaws.{commit_every}
 use Rattle.mg_image_overlays.proofs.kept.commits_keep.Goals as goal
 
 pub returns : goal.returns

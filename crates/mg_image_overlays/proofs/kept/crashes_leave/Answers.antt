@@ -1,8 +1,8 @@
 use Rattle.std.proofs.Common.{◌≡◌, ℕ, true, false, sym, ◌∙◌, ap}
 use Rattle.std.proofs.lemmas.Bool.{eqb-true}
 use Rattle.mg_image.specs.Form.{packed_form}
-use Rattle.mg_image_overlays.specs.HoldLaws.{overlays_hold}
-use Rattle.mg_image_overlays.specs.KeptLaws.{only}
+use Rattle.mg_image_overlays.specs.kept.HoldLaws.{overlays_hold}
+use Rattle.mg_image_overlays.specs.kept.KeptLaws.{only}
 use Rattle.mg_image_overlays.proofs.kept.crashes_leave.Goals as goal
 
 pub returns-clause-nobody : goal.returns-clause-nobody

@@ -1,7 +1,7 @@
 use Rattle.mg_image.specs.Form.{packed_form}
 use Rattle.mg_overlays.specs.StateLaws.{every_at_start}
-use Rattle.mg_image_overlays.specs.KeptImages.{keeping}
-use Rattle.mg_image_overlays.specs.StartLaws.{kept_by_itself}
+use Rattle.mg_image_overlays.specs.kept.KeptImages.{keeping}
+use Rattle.mg_image_overlays.specs.kept.StartLaws.{kept_by_itself}
 use Rattle.mg_image_overlays.proofs.kept.overlays_start.Goals as goal
 
 pub returns : goal.returns

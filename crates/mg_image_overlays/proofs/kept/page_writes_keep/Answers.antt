@@ -1,6 +1,6 @@
 use Rattle.mg_image.specs.Form.{packed_form}
 use Rattle.mg_overlays.specs.BatchLaws.{writes_keep}
-use Rattle.mg_image_overlays.specs.KeptImages.{keeping}
+use Rattle.mg_image_overlays.specs.kept.KeptImages.{keeping}
 use Rattle.mg_image_overlays.proofs.kept.page_writes_keep.Goals as goal
 
 pub returns : goal.returns

@@ -1,5 +1,5 @@
 use Rattle.mg_image.specs.Form.{packed_form}
-use Rattle.mg_image_overlays.specs.OneLayout.{sound_once}
+use Rattle.mg_image_overlays.specs.tables.OneLayout.{sound_once}
 use Rattle.mg_image_overlays.proofs.layout.sound_images_stand_one_way.Goals as goal
 
 pub returns : goal.returns

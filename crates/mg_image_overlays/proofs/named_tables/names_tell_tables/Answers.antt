@@ -1,5 +1,5 @@
 use Rattle.mg_image.specs.Form.{packed_form}
-use Rattle.mg_image_overlays.specs.NamedTables.{names_tell_tables}
+use Rattle.mg_image_overlays.specs.names.NamedTables.{names_tell_tables}
 use Rattle.mg_image_overlays.proofs.named_tables.names_tell_tables.Goals as goal
 
 pub returns : goal.returns

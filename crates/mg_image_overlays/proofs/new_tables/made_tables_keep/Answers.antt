@@ -1,5 +1,5 @@
 use Rattle.mg_image.specs.Form.{packed_form}
-use Rattle.mg_image_overlays.specs.Making.{make_every}
+use Rattle.mg_image_overlays.specs.names.Making.{make_every}
 use Rattle.mg_image_overlays.proofs.new_tables.made_tables_keep.Goals as goal
 
 pub returns : goal.returns

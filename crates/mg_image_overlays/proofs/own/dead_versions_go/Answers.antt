@@ -1,5 +1,5 @@
 use Rattle.mg_image.specs.Form.{packed_form}
-use Rattle.mg_image_overlays.specs.BackEvery.{dead_out_every}
+use Rattle.mg_image_overlays.specs.records.BackEvery.{dead_out_every}
 use Rattle.mg_image_overlays.proofs.own.dead_versions_go.Goals as goal
 
 pub returns : goal.returns

@@ -1,5 +1,5 @@
 use Rattle.mg_image.specs.Form.{packed_form}
-use Rattle.mg_image_overlays.specs.MoveEvery.{move_every}
+use Rattle.mg_image_overlays.specs.records.MoveEvery.{move_every}
 use Rattle.mg_image_overlays.proofs.own.moves_keep.Goals as goal
 
 pub returns : goal.returns

@@ -1,5 +1,5 @@
 use Rattle.mg_image.specs.Form.{packed_form}
-use Rattle.mg_image_overlays.specs.ReplaceEvery.{replace_every}
+use Rattle.mg_image_overlays.specs.records.ReplaceEvery.{replace_every}
 use Rattle.mg_image_overlays.proofs.own.replacements_keep.Goals as goal
 
 pub returns : goal.returns

@@ -1,5 +1,5 @@
 use Rattle.mg_image.specs.Form.{packed_form}
-use Rattle.mg_image_overlays.specs.BackEvery.{take_back_every}
+use Rattle.mg_image_overlays.specs.records.BackEvery.{take_back_every}
 use Rattle.mg_image_overlays.proofs.own.taking_back_keeps.Goals as goal
 
 pub returns : goal.returns

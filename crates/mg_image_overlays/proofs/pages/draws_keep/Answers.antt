@@ -1,5 +1,5 @@
 use Rattle.mg_image.specs.Form.{packed_form}
-use Rattle.mg_image_overlays.specs.Draw.{draw_every}
+use Rattle.mg_image_overlays.specs.pages.Draw.{draw_every}
 use Rattle.mg_image_overlays.proofs.pages.draws_keep.Goals as goal
 
 pub returns : goal.returns

@@ -1,5 +1,5 @@
 use Rattle.mg_image.specs.Form.{packed_form}
-use Rattle.mg_image_overlays.specs.GrowEvery.{grow_every}
+use Rattle.mg_image_overlays.specs.pages.GrowEvery.{grow_every}
 use Rattle.mg_image_overlays.proofs.pages.grown_tables_keep.Goals as goal
 
 pub returns : goal.returns

@@ -1,5 +1,5 @@
 use Rattle.mg_image.specs.Form.{packed_form}
-use Rattle.mg_image_overlays.specs.Creating.{create_every}
+use Rattle.mg_image_overlays.specs.names.Creating.{create_every}
 use Rattle.mg_image_overlays.proofs.pages.new_tables_keep.Goals as goal
 
 pub returns : goal.returns

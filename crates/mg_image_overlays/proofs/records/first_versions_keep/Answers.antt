@@ -1,5 +1,5 @@
 use Rattle.mg_image.specs.Form.{packed_form}
-use Rattle.mg_image_overlays.specs.AddEvery.{add_every}
+use Rattle.mg_image_overlays.specs.records.AddEvery.{add_every}
 use Rattle.mg_image_overlays.proofs.records.first_versions_keep.Goals as goal
 
 pub returns : goal.returns

@@ -1,7 +1,7 @@
 use Rattle.mg_image.specs.Form.{packed_form}
-use Rattle.mg_image_overlays.specs.Chains.{read_beside}
-use Rattle.mg_image_overlays.specs.DataKept.{data_more, data_self}
-use Rattle.mg_image_overlays.specs.LayoutStays.{layout_stays}
+use Rattle.mg_image_overlays.specs.records.Chains.{read_beside}
+use Rattle.mg_image_overlays.specs.pages.DataKept.{data_more, data_self}
+use Rattle.mg_image_overlays.specs.tables.LayoutStays.{layout_stays}
 use Rattle.mg_image_overlays.proofs.stands.data_pages_leave.Goals as goal
 
 pub returns-clause-pages : goal.returns-clause-pages

@@ -1,5 +1,5 @@
 use Rattle.mg_image.specs.Form.{packed_form}
-use Rattle.mg_image_overlays.specs.OneTable.{its_data, one_table}
+use Rattle.mg_image_overlays.specs.tables.OneTable.{its_data, one_table}
 use Rattle.mg_image_overlays.proofs.stands.tables_are_one.Goals as goal
 
 pub returns-clause-names : goal.returns-clause-names

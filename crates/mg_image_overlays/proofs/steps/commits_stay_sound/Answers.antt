@@ -1,5 +1,5 @@
 use Rattle.mg_image.specs.Form.{packed_form}
-use Rattle.mg_image_overlays.specs.CommitSound.{commit_sound}
+use Rattle.mg_image_overlays.specs.transactions.CommitSound.{commit_sound}
 use Rattle.mg_image_overlays.proofs.steps.commits_stay_sound.Goals as goal
 
 pub returns : goal.returns

@@ -1,5 +1,5 @@
 use Rattle.mg_image.specs.Form.{packed_form}
-use Rattle.mg_image_overlays.specs.TableOwners.{owned}
+use Rattle.mg_image_overlays.specs.tables.TableOwners.{owned}
 use Rattle.mg_image_overlays.proofs.steps.tables_have_makers.Goals as goal
 
 pub returns : goal.returns

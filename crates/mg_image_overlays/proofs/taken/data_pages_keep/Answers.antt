@@ -1,5 +1,5 @@
 use Rattle.mg_image.specs.Form.{packed_form}
-use Rattle.mg_image_overlays.specs.ExtendEvery.{enter_every}
+use Rattle.mg_image_overlays.specs.pages.ExtendEvery.{enter_every}
 use Rattle.mg_image_overlays.proofs.taken.data_pages_keep.Goals as goal
 
 pub returns : goal.returns

@@ -1,5 +1,5 @@
 use Rattle.mg_image.specs.Form.{packed_form}
-use Rattle.mg_image_overlays.specs.FirstFor.{add_for_every}
+use Rattle.mg_image_overlays.specs.tables.FirstFor.{add_for_every}
 use Rattle.mg_image_overlays.proofs.whose.first_versions_keep_for.Goals as goal
 
 pub returns : goal.returns

@@ -1,5 +1,5 @@
 use Rattle.mg_image.specs.Form.{packed_form}
-use Rattle.mg_image_overlays.specs.GrowthFor.{growth_for_every}
+use Rattle.mg_image_overlays.specs.tables.GrowthFor.{growth_for_every}
 use Rattle.mg_image_overlays.proofs.whose.growth_keeps_for.Goals as goal
 
 pub returns : goal.returns

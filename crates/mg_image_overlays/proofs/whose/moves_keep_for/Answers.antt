@@ -1,5 +1,5 @@
 use Rattle.mg_image.specs.Form.{packed_form}
-use Rattle.mg_image_overlays.specs.MoveFor.{move_for_every}
+use Rattle.mg_image_overlays.specs.tables.MoveFor.{move_for_every}
 use Rattle.mg_image_overlays.proofs.whose.moves_keep_for.Goals as goal
 
 pub returns : goal.returns

@@ -1,5 +1,5 @@
 use Rattle.mg_image.specs.Form.{packed_form}
-use Rattle.mg_image_overlays.specs.PushFor.{push_for_every}
+use Rattle.mg_image_overlays.specs.tables.PushFor.{push_for_every}
 use Rattle.mg_image_overlays.proofs.whose.pushes_keep_for.Goals as goal
 
 pub returns : goal.returns

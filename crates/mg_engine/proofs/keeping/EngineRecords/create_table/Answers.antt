@@ -2,7 +2,7 @@ use Rattle.std.proofs.Common.{subst}
 use Rattle.mg_engine.specs.Places.{places}
 use Rattle.mg_records.specs.Keeping.{refusal_in}
 use Rattle.mg_engine.proofs.MakingLemmas.{makes_apart, makes_as, makes_room, makes_undamaged}
-use Rattle.mg_engine_changes.specs.MakingSteps.{AreNamed}
+use Rattle.mg_engine_changes.specs.tables.MakingSteps.{AreNamed}
 use Rattle.mg_engine.proofs.ToldLemmas.{told_as}
 use Rattle.mg_engine.proofs.RoomLemmas.{makes_table_room}
 use Rattle.mg_engine_meaning.specs.Meaning.{means}

@@ -1,4 +1,4 @@
-use Rattle.mg_engine_changes.specs.StepLaws.{creations_keep_apart, refusals_keep_apart}
+use Rattle.mg_engine_changes.specs.tables.StepLaws.{creations_keep_apart, refusals_keep_apart}
 use Rattle.mg_engine_changes.proofs.makings.creating.creations_keep_apart.Goals as goal
 
 pub returns-clause-made : goal.returns-clause-made

@@ -1,5 +1,5 @@
-use Rattle.mg_engine_changes.specs.MakingLaws.{tables_are_made}
-use Rattle.mg_engine_changes.specs.StepLaws.{tables_are_refused}
+use Rattle.mg_engine_changes.specs.tables.MakingLaws.{tables_are_made}
+use Rattle.mg_engine_changes.specs.tables.StepLaws.{tables_are_refused}
 use Rattle.mg_engine_changes.proofs.makings.creating.tables_are_made.Goals as goal
 
 pub returns-clause-made : goal.returns-clause-made

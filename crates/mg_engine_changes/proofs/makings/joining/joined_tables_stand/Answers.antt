@@ -1,6 +1,6 @@
 use Rattle.mg_image.specs.Form.{packed_form}
-use Rattle.mg_engine_changes.specs.JoinedKept.{joined_are_kept}
-use Rattle.mg_engine_changes.specs.JoinedSound.{joined_are_sound}
+use Rattle.mg_engine_changes.specs.tables.JoinedKept.{joined_are_kept}
+use Rattle.mg_engine_changes.specs.tables.JoinedSound.{joined_are_sound}
 use Rattle.mg_engine_changes.proofs.makings.joining.joined_tables_stand.Goals as goal
 
 pub returns-clause-sound : goal.returns-clause-sound

@@ -1,5 +1,5 @@
 use Rattle.mg_image.specs.Form.{packed_form}
-use Rattle.mg_engine_changes.specs.JoinedBatch.{made_table_keeps}
+use Rattle.mg_engine_changes.specs.tables.JoinedBatch.{made_table_keeps}
 use Rattle.mg_engine_changes.proofs.makings.joining.made_tables_keep.Goals as goal
 
 pub returns : goal.returns

@@ -1,5 +1,5 @@
 use Rattle.mg_image.specs.Form.{packed_form}
-use Rattle.mg_engine_changes.specs.TableReads.{tables_are_read}
+use Rattle.mg_engine_changes.specs.tables.TableReads.{tables_are_read}
 use Rattle.mg_engine_changes.proofs.makings.joining.new_tables_are_read.Goals as goal
 
 pub returns : goal.returns

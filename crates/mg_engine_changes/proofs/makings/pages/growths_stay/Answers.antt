@@ -1,4 +1,4 @@
-use Rattle.mg_engine_changes.specs.GrowthLaws.{growths_stay}
+use Rattle.mg_engine_changes.specs.tables.GrowthLaws.{growths_stay}
 use Rattle.mg_engine_changes.proofs.makings.pages.growths_stay.Goals as goal
 
 pub returns : goal.returns

@@ -1,5 +1,5 @@
 use Rattle.mg_image.specs.Form.{packed_form}
-use Rattle.mg_engine_changes.specs.StandMadeLaws.{left_pages_are_there}
+use Rattle.mg_engine_changes.specs.tables.StandMadeLaws.{left_pages_are_there}
 use Rattle.mg_engine_changes.proofs.makings.pages.left_pages_are_there.Goals as goal
 
 pub returns : goal.returns

@@ -1,4 +1,4 @@
-use Rattle.mg_engine_changes.specs.MakingRefusalLaws.{creations_are_refused}
+use Rattle.mg_engine_changes.specs.tables.MakingRefusalLaws.{creations_are_refused}
 use Rattle.mg_engine_changes.proofs.makings.refusals.creations_are_refused.Goals as goal
 
 pub returns : goal.returns

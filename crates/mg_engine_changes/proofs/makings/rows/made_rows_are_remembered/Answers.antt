@@ -1,4 +1,4 @@
-use Rattle.mg_engine_changes.specs.RememberingLaws.{rows_are_remembered}
+use Rattle.mg_engine_changes.specs.tables.RememberingLaws.{rows_are_remembered}
 use Rattle.mg_engine_changes.proofs.makings.rows.made_rows_are_remembered.Goals as goal
 
 pub returns : goal.returns

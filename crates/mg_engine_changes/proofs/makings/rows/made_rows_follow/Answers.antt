@@ -1,4 +1,4 @@
-use Rattle.mg_engine_changes.specs.MakingRowsLaws.{rows_follow}
+use Rattle.mg_engine_changes.specs.tables.MakingRowsLaws.{rows_follow}
 use Rattle.mg_engine_changes.proofs.makings.rows.made_rows_follow.Goals as goal
 
 pub returns : goal.returns

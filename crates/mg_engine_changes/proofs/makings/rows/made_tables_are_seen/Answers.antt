@@ -1,4 +1,4 @@
-use Rattle.mg_engine_changes.specs.SeenLaws.{made_are_seen}
+use Rattle.mg_engine_changes.specs.tables.SeenLaws.{made_are_seen}
 use Rattle.mg_engine_changes.proofs.makings.rows.made_tables_are_seen.Goals as goal
 
 pub returns : goal.returns

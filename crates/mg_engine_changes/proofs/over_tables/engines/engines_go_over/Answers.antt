@@ -1,4 +1,4 @@
-use Rattle.mg_engine_changes.specs.EngineOverLaws.{engines_go_over, others_walk_over}
+use Rattle.mg_engine_changes.specs.tables_back.EngineOverLaws.{engines_go_over, others_walk_over}
 use Rattle.mg_engine_changes.proofs.over_tables.engines.engines_go_over.Goals as goal
 
 pub returns-clause-stands : goal.returns-clause-stands

@@ -1,4 +1,4 @@
-use Rattle.mg_engine_changes.specs.RowsGivenLaws.{given_apart, rows_are_left}
+use Rattle.mg_engine_changes.specs.tables_back.RowsGivenLaws.{given_apart, rows_are_left}
 use Rattle.mg_engine_changes.proofs.over_tables.lists.rows_are_given.Goals as goal
 
 pub returns-clause-apart : goal.returns-clause-apart

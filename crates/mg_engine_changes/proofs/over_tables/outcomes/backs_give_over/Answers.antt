@@ -1,4 +1,4 @@
-use Rattle.mg_engine_changes.specs.OverOutcomesLaws.{marks_give_over, savepoints_give_over}
+use Rattle.mg_engine_changes.specs.tables_back.OverOutcomesLaws.{marks_give_over, savepoints_give_over}
 use Rattle.mg_engine_changes.proofs.over_tables.outcomes.backs_give_over.Goals as goal
 
 pub returns-clause-marks : goal.returns-clause-marks

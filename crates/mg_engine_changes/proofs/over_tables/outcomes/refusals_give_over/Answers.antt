@@ -1,4 +1,4 @@
-use Rattle.mg_engine_changes.specs.OverOutcomesLaws.{refusals_give_over}
+use Rattle.mg_engine_changes.specs.tables_back.OverOutcomesLaws.{refusals_give_over}
 use Rattle.mg_engine_changes.proofs.over_tables.outcomes.refusals_give_over.Goals as goal
 
 pub returns : goal.returns

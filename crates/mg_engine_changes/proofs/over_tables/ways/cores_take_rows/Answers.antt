@@ -1,4 +1,4 @@
-use Rattle.mg_engine_changes.specs.CoreRowsLaws.{cores_take_rows}
+use Rattle.mg_engine_changes.specs.tables_back.CoreRowsLaws.{cores_take_rows}
 use Rattle.mg_engine_changes.proofs.over_tables.ways.cores_take_rows.Goals as goal
 
 pub returns : goal.returns

@@ -1,4 +1,4 @@
-use Rattle.mg_engine_changes.specs.TablesMemoryLaws.{tables_follow}
+use Rattle.mg_engine_changes.specs.tables_back.TablesMemoryLaws.{tables_follow}
 use Rattle.mg_engine_changes.proofs.over_tables.ways.tables_follow.Goals as goal
 
 pub returns : goal.returns

@@ -1,4 +1,4 @@
-use Rattle.mg_engine_changes.specs.TablesWalksLaws.{tables_walks_go_on}
+use Rattle.mg_engine_changes.specs.tables_back.TablesWalksLaws.{tables_walks_go_on}
 use Rattle.mg_engine_changes.proofs.over_tables.ways.tables_walks_go_on.Goals as goal
 
 pub returns : goal.returns

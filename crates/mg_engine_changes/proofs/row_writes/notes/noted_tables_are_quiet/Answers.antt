@@ -1,4 +1,4 @@
-use Rattle.mg_engine_changes.specs.NotesLaws.{noted_tables_are_kept, noted_works_stay, notes_stay}
+use Rattle.mg_engine_changes.specs.memory.NotesLaws.{noted_tables_are_kept, noted_works_stay, notes_stay}
 use Rattle.mg_engine_changes.proofs.row_writes.notes.noted_tables_are_quiet.Goals as goal
 
 pub returns-clause-works : goal.returns-clause-works

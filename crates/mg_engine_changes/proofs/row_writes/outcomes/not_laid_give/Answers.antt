@@ -1,4 +1,4 @@
-use Rattle.mg_engine_changes.specs.NotLaidLaws.{not_laid_gives, not_laid_works}
+use Rattle.mg_engine_changes.specs.rows.NotLaidLaws.{not_laid_gives, not_laid_works}
 use Rattle.mg_engine_changes.proofs.row_writes.outcomes.not_laid_give.Goals as goal
 
 pub returns : goal.returns

@@ -1,4 +1,4 @@
-use Rattle.mg_engine_changes.specs.NotedLaws as laws
+use Rattle.mg_engine_changes.specs.rows.NotedLaws as laws
 use Rattle.mg_engine_changes.proofs.row_writes.outcomes.noted_writes_give.Goals as goal
 
 pub returns-clause-writes : goal.returns-clause-writes

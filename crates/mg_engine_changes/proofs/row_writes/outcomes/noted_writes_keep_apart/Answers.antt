@@ -1,4 +1,4 @@
-use Rattle.mg_engine_changes.specs.ApartLaws as laws
+use Rattle.mg_engine_changes.specs.rows.ApartLaws as laws
 use Rattle.mg_engine_changes.proofs.row_writes.outcomes.noted_writes_keep_apart.Goals as goal
 
 pub returns-clause-writes : goal.returns-clause-writes

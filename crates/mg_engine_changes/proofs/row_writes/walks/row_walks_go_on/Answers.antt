@@ -1,4 +1,4 @@
-use Rattle.mg_engine_changes.specs.RowWalksLaws.{row_walks_go_on}
+use Rattle.mg_engine_changes.specs.rows.RowWalksLaws.{row_walks_go_on}
 use Rattle.mg_engine_changes.proofs.row_writes.walks.row_walks_go_on.Goals as goal
 
 pub returns : goal.returns

@@ -1,4 +1,4 @@
-use Rattle.mg_engine_changes.specs.BeforeLaws as laws
+use Rattle.mg_engine_changes.specs.rows.BeforeLaws as laws
 use Rattle.mg_engine_changes.proofs.row_writes.writes.befores_are_told.Goals as goal
 
 pub returns : goal.returns

@@ -1,4 +1,4 @@
-use Rattle.mg_engine_changes.specs.LaidLaws.{all_laid, dead_stays, entries_over, place_stays, read_stays, row_laid, starts_over}
+use Rattle.mg_engine_changes.specs.rows.LaidLaws.{all_laid, dead_stays, entries_over, place_stays, read_stays, row_laid, starts_over}
 use Rattle.mg_engine_changes.proofs.row_writes.writes.first_batches_stay.Goals as goal
 
 pub returns-clause-reads : goal.returns-clause-reads

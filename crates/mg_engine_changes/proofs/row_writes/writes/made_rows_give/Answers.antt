@@ -1,4 +1,4 @@
-use Rattle.mg_engine_changes.specs.MadeLaws as laws
+use Rattle.mg_engine_changes.specs.rows.MadeLaws as laws
 use Rattle.mg_engine_changes.proofs.row_writes.writes.made_rows_give.Goals as goal
 
 pub returns : goal.returns

@@ -1,4 +1,4 @@
-use Rattle.mg_engine_changes.specs.KeptLaws as laws
+use Rattle.mg_engine_changes.specs.rows.KeptLaws as laws
 use Rattle.mg_engine_changes.proofs.row_writes.writes.made_writes_follow.Goals as goal
 
 pub returns : goal.returns

@@ -1,5 +1,5 @@
-use Rattle.mg_engine_changes.specs.LaidLaws.{over_dead}
-use Rattle.mg_engine_changes.specs.WriteWays.{ready_of}
+use Rattle.mg_engine_changes.specs.rows.LaidLaws.{over_dead}
+use Rattle.mg_engine_changes.specs.rows.WriteWays.{ready_of}
 use Rattle.mg_engine_changes.proofs.row_writes.writes.over_dead_rows_go_on.Goals as goal
 
 pub returns : goal.returns

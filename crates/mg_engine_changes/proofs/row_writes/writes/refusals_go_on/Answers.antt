@@ -1,4 +1,4 @@
-use Rattle.mg_engine_changes.specs.RefusalStages.{refusals}
+use Rattle.mg_engine_changes.specs.rows.RefusalStages.{refusals}
 use Rattle.mg_engine_changes.proofs.row_writes.writes.refusals_go_on.Goals as goal
 
 pub returns : goal.returns

@@ -1,5 +1,5 @@
-use Rattle.mg_engine_changes.specs.LaidLaws.{pushed, replaced}
-use Rattle.mg_engine_changes.specs.WriteWays.{ready_of}
+use Rattle.mg_engine_changes.specs.rows.LaidLaws.{pushed, replaced}
+use Rattle.mg_engine_changes.specs.rows.WriteWays.{ready_of}
 use Rattle.mg_engine_changes.proofs.row_writes.writes.rows_go_on.Goals as goal
 
 pub returns-clause-pushed : goal.returns-clause-pushed

@@ -1,4 +1,4 @@
-use Rattle.mg_engine_changes.specs.OwnerLaws as laws
+use Rattle.mg_engine_changes.specs.rows.OwnerLaws as laws
 use Rattle.mg_engine_changes.proofs.row_writes.writes.seen_may_be_written.Goals as goal
 
 pub returns : goal.returns

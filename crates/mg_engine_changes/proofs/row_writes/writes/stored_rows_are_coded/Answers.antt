@@ -1,4 +1,4 @@
-use Rattle.mg_engine_changes.specs.CodeLaws as laws
+use Rattle.mg_engine_changes.specs.rows.CodeLaws as laws
 use Rattle.mg_engine_changes.proofs.row_writes.writes.stored_rows_are_coded.Goals as goal
 
 pub returns : goal.returns

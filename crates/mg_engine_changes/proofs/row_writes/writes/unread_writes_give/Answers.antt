@@ -1,5 +1,5 @@
 use Rattle.mg_core.specs.Noting.{WhyNotMade}
-use Rattle.mg_engine_changes.specs.UnreadLaws.{unread_gives}
+use Rattle.mg_engine_changes.specs.rows.UnreadLaws.{unread_gives}
 use Rattle.mg_engine_changes.proofs.row_writes.writes.unread_writes_give.Goals as goal
 
 pub returns : goal.returns

@@ -1,4 +1,4 @@
-use Rattle.mg_engine_changes.specs.WayLaws as laws
+use Rattle.mg_engine_changes.specs.rows.WayLaws as laws
 use Rattle.mg_engine_changes.proofs.row_writes.writes.ways_are_free.Goals as goal
 
 pub returns : goal.returns

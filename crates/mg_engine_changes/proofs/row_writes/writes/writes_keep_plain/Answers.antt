@@ -1,4 +1,4 @@
-use Rattle.mg_engine_changes.specs.PlainLaws as laws
+use Rattle.mg_engine_changes.specs.rows.PlainLaws as laws
 use Rattle.mg_engine_changes.proofs.row_writes.writes.writes_keep_plain.Goals as goal
 
 pub returns : goal.returns

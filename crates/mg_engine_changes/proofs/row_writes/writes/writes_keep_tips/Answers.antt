@@ -1,5 +1,5 @@
 use Rattle.mg_image.specs.Form.{packed_form}
-use Rattle.mg_engine_changes.specs.TipLaws as laws
+use Rattle.mg_engine_changes.specs.rows.TipLaws as laws
 use Rattle.mg_engine_changes.proofs.row_writes.writes.writes_keep_tips.Goals as goal
 
 pub returns-clause-growth : goal.returns-clause-growth

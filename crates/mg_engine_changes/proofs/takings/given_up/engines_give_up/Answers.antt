@@ -1,4 +1,4 @@
-use Rattle.mg_engine_changes.specs.EngineGivenUp.{engines_give_up}
+use Rattle.mg_engine_changes.specs.given_up.EngineGivenUp.{engines_give_up}
 use Rattle.mg_engine_changes.proofs.takings.given_up.engines_give_up.Goals as goal
 
 pub returns : goal.returns

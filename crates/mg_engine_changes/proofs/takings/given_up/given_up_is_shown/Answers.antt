@@ -1,5 +1,5 @@
-use Rattle.mg_engine_changes.specs.Dying.{versions_die_midway}
-use Rattle.mg_engine_changes.specs.GivenUpLaws.{given_up_is_shown}
+use Rattle.mg_engine_changes.specs.given_up.Dying.{versions_die_midway}
+use Rattle.mg_engine_changes.specs.given_up.GivenUpLaws.{given_up_is_shown}
 use Rattle.mg_engine_changes.proofs.takings.given_up.given_up_is_shown.Goals as goal
 
 pub returns-clause-versions : goal.returns-clause-versions

@@ -1,4 +1,4 @@
-use Rattle.mg_engine_changes.specs.BackTablesLaws.{its_tables_may_be_written}
+use Rattle.mg_engine_changes.specs.keys.BackTablesLaws.{its_tables_may_be_written}
 use Rattle.mg_engine_changes.proofs.takings.keys.its_tables_may_be_written.Goals as goal
 
 pub returns : goal.returns

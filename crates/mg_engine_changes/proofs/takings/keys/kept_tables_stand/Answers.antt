@@ -1,4 +1,4 @@
-use Rattle.mg_engine_changes.specs.WrittenLaws.{kept_tables_are_named, kept_tables_stand}
+use Rattle.mg_engine_changes.specs.keys.WrittenLaws.{kept_tables_are_named, kept_tables_stand}
 use Rattle.mg_engine_changes.proofs.takings.keys.kept_tables_stand.Goals as goal
 
 pub returns-clause-stand : goal.returns-clause-stand

@@ -1,4 +1,4 @@
-use Rattle.mg_engine_changes.specs.KeyStepLaws.{key_steps_are_taken}
+use Rattle.mg_engine_changes.specs.keys.KeyStepLaws.{key_steps_are_taken}
 use Rattle.mg_engine_changes.proofs.takings.keys.key_steps_are_taken.Goals as goal
 
 pub returns : goal.returns

@@ -1,4 +1,4 @@
-use Rattle.mg_engine_changes.specs.BackListsLaws.{keys_keep_lists}
+use Rattle.mg_engine_changes.specs.keys.BackListsLaws.{keys_keep_lists}
 use Rattle.mg_engine_changes.proofs.takings.keys.keys_keep_lists.Goals as goal
 
 pub returns : goal.returns

@@ -1,4 +1,4 @@
-use Rattle.mg_engine_changes.specs.BackPagesLaws.{keys_keep_pages}
+use Rattle.mg_engine_changes.specs.keys.BackPagesLaws.{keys_keep_pages}
 use Rattle.mg_engine_changes.proofs.takings.keys.keys_keep_pages.Goals as goal
 
 pub returns : goal.returns

@@ -1,4 +1,4 @@
-use Rattle.mg_engine_changes.specs.BackWalksLaws.{back_walks_go_on, given_up_walks_go_on}
+use Rattle.mg_engine_changes.specs.keys.BackWalksLaws.{back_walks_go_on, given_up_walks_go_on}
 use Rattle.mg_engine_changes.proofs.takings.keys.others_walk_on.Goals as goal
 
 pub returns-clause-back : goal.returns-clause-back

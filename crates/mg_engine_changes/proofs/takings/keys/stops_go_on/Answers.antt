@@ -1,4 +1,4 @@
-use Rattle.mg_engine_changes.specs.BackStopsLaws.{stops_are_given_up, writes_fail_midway}
+use Rattle.mg_engine_changes.specs.given_up.BackStopsLaws.{stops_are_given_up, writes_fail_midway}
 use Rattle.mg_engine_changes.proofs.takings.keys.stops_go_on.Goals as goal
 
 pub returns-clause-given_up : goal.returns-clause-given_up

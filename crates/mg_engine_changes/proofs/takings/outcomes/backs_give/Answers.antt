@@ -1,4 +1,4 @@
-use Rattle.mg_engine_changes.specs.StepsLaws as laws
+use Rattle.mg_engine_changes.specs.backs.StepsLaws as laws
 use Rattle.mg_engine_changes.proofs.takings.outcomes.backs_give.Goals as goal
 
 pub returns-clause-marks : goal.returns-clause-marks

@@ -1,4 +1,4 @@
-use Rattle.mg_engine_changes.specs.EnterSomeLaws.{cores_enter_some}
+use Rattle.mg_engine_changes.specs.entries.EnterSomeLaws.{cores_enter_some}
 use Rattle.mg_engine_changes.proofs.takings.takings.cores_enter_some.Goals as goal
 
 pub returns : goal.returns

@@ -1,4 +1,4 @@
-use Rattle.mg_engine_changes.specs.KeysLaws.{cores_take_all}
+use Rattle.mg_engine_changes.specs.keys.KeysLaws.{cores_take_all}
 use Rattle.mg_engine_changes.proofs.takings.takings.cores_take_all.Goals as goal
 
 pub returns : goal.returns

@@ -1,4 +1,4 @@
-use Rattle.mg_engine_changes.specs.KeyLaws.{cores_take_keys}
+use Rattle.mg_engine_changes.specs.keys.KeyLaws.{cores_take_keys}
 use Rattle.mg_engine_changes.proofs.takings.takings.cores_take_keys.Goals as goal
 
 pub returns : goal.returns

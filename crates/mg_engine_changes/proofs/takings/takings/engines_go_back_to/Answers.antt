@@ -1,4 +1,4 @@
-use Rattle.mg_engine_changes.specs.BackLaws.{engines_go_back_to, others_walk_on_back}
+use Rattle.mg_engine_changes.specs.backs.BackLaws.{engines_go_back_to, others_walk_on_back}
 use Rattle.mg_engine_changes.proofs.takings.takings.engines_go_back_to.Goals as goal
 
 pub returns-clause-stands : goal.returns-clause-stands

@@ -1,4 +1,4 @@
-use Rattle.mg_engine_changes.specs.BackEntryLaws.{keys_enter_midway}
+use Rattle.mg_engine_changes.specs.entries.BackEntryLaws.{keys_enter_midway}
 use Rattle.mg_engine_changes.proofs.takings.takings.keys_enter_midway.Goals as goal
 
 pub returns : goal.returns

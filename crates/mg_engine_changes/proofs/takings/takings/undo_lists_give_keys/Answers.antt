@@ -1,4 +1,4 @@
-use Rattle.mg_engine_changes.specs.GivenLaws.{undo_lists_give_keys}
+use Rattle.mg_engine_changes.specs.backs.GivenLaws.{undo_lists_give_keys}
 use Rattle.mg_engine_changes.proofs.takings.takings.undo_lists_give_keys.Goals as goal
 
 pub returns : goal.returns

@@ -1,4 +1,4 @@
-use Rattle.mg_engine_changes.specs.MemoryLaws.{backs_follow}
+use Rattle.mg_engine_changes.specs.backs.MemoryLaws.{backs_follow}
 use Rattle.mg_engine_changes.proofs.takings.undoing.backs_follow.Goals as goal
 
 pub returns : goal.returns

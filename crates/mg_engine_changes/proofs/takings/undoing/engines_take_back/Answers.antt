@@ -1,4 +1,4 @@
-use Rattle.mg_engine_changes.specs.BacksLaws.{backs_are_given_up, backs_go_on}
+use Rattle.mg_engine_changes.specs.backs.BacksLaws.{backs_are_given_up, backs_go_on}
 use Rattle.mg_engine_changes.proofs.takings.undoing.engines_take_back.Goals as goal
 
 pub returns-clause-back : goal.returns-clause-back

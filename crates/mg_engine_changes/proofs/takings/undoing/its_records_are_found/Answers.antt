@@ -1,4 +1,4 @@
-use Rattle.mg_engine_changes.specs.FoundLaws.{changes_are_there, its_record_is_found}
+use Rattle.mg_engine_changes.specs.keys.FoundLaws.{changes_are_there, its_record_is_found}
 use Rattle.mg_engine_changes.proofs.takings.undoing.its_records_are_found.Goals as goal
 
 pub returns-clause-found : goal.returns-clause-found

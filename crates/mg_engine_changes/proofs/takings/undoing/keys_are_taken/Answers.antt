@@ -1,4 +1,4 @@
-use Rattle.mg_engine_changes.specs.ToTakeLaws.{keys_are_taken, since_are_taken, was_there}
+use Rattle.mg_engine_changes.specs.backs.ToTakeLaws.{keys_are_taken, since_are_taken, was_there}
 use Rattle.mg_engine_changes.proofs.takings.undoing.keys_are_taken.Goals as goal
 
 pub returns-clause-since : goal.returns-clause-since

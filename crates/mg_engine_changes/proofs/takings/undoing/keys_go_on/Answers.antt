@@ -1,4 +1,4 @@
-use Rattle.mg_engine_changes.specs.TakingStepLaws.{keys_go_on}
+use Rattle.mg_engine_changes.specs.keys.TakingStepLaws.{keys_go_on}
 use Rattle.mg_engine_changes.proofs.takings.undoing.keys_go_on.Goals as goal
 
 pub returns : goal.returns

@@ -1,4 +1,4 @@
-use Rattle.mg_engine_changes.specs.BackFindsLaws.{back_finds}
+use Rattle.mg_engine_changes.specs.backs.BackFindsLaws.{back_finds}
 use Rattle.mg_engine_changes.proofs.takings.undoing.tables_are_found_back.Goals as goal
 
 pub returns : goal.returns

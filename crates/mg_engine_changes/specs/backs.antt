@@ -1,0 +1,22 @@
+-- A transaction is taken back to a point at an engine: which keys, and what the call leaves.
+pub mod BackBegun
+pub mod BackFinds
+pub mod BackFindsLaws
+pub mod BackLaws
+pub mod Backs
+pub mod BacksLaws
+pub mod EngineBacks
+pub mod Events
+pub mod Given
+pub mod GivenLaws
+pub mod Known
+pub mod Memory
+pub mod MemoryLaws
+pub mod OthersRows
+pub mod Outcomes
+pub mod OwnVersions
+pub mod StepsLaws
+pub mod ToTake
+pub mod ToTakeLaws
+pub mod UndoneLaws
+pub mod Untouched

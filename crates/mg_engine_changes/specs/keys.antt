@@ -1,0 +1,24 @@
+-- One key is taken back after another: what each step leaves of tables, pages and walks.
+pub mod BackLists
+pub mod BackListsLaws
+pub mod BackPages
+pub mod BackPagesLaws
+pub mod BackTables
+pub mod BackTablesLaws
+pub mod BackWalks
+pub mod BackWalksLaws
+pub mod Chains
+pub mod Clearing
+pub mod ClearingLaws
+pub mod Found
+pub mod FoundLaws
+pub mod KeyLaws
+pub mod KeyStepLaws
+pub mod KeySteps
+pub mod Keys
+pub mod KeysLaws
+pub mod TakingStepLaws
+pub mod TakingSteps
+pub mod Takings
+pub mod Written
+pub mod WrittenLaws

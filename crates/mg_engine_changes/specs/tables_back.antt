@@ -1,0 +1,25 @@
+-- A transaction is taken back over tables that it has made.
+pub mod CatalogLaws
+pub mod CoreRows
+pub mod CoreRowsLaws
+pub mod EngineOver
+pub mod EngineOverLaws
+pub mod KeptOverLaws
+pub mod ListsTell
+pub mod ListsTellLaws
+pub mod MadeSinceLaws
+pub mod OverEvents
+pub mod OverGiven
+pub mod OverOutcomes
+pub mod OverOutcomesLaws
+pub mod OverRows
+pub mod OverStopped
+pub mod RowsGiven
+pub mod RowsGivenLaws
+pub mod RowsLost
+pub mod RowsLostLaws
+pub mod TablesMemory
+pub mod TablesMemoryLaws
+pub mod TablesWalks
+pub mod TablesWalksLaws
+pub mod UndoneOver

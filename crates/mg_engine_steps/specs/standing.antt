@@ -1,0 +1,26 @@
+-- When an engine's memory and pages stand for a history, and what keeps them so.
+pub mod Based
+pub mod BasedLaws
+pub mod ChainLaws
+pub mod Choices
+pub mod Ending
+pub mod EndingLaws
+pub mod Following
+pub mod Known
+pub mod Listed
+pub mod MemoryLaws
+pub mod OwnChains
+pub mod QuietLaws
+pub mod QuietPages
+pub mod RowsLaws
+pub mod ShowsLaws
+pub mod Speakers
+pub mod Standing
+pub mod StandingLaws
+pub mod StandsLaws
+pub mod StartLaws
+pub mod StartVersions
+pub mod Versions
+pub mod VersionsLaws
+pub mod Writing
+pub mod WritingLaws

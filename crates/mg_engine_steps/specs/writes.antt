@@ -1,0 +1,25 @@
+-- Records that are written, in a batch over the cache of an engine.
+pub mod BatchLaws
+pub mod Batches
+pub mod Caches
+pub mod ChangeKnown
+pub mod Claims
+pub mod FirstLaws
+pub mod Free
+pub mod GoesOn
+pub mod GoesOnLaws
+pub mod Knowing
+pub mod OwnKept
+pub mod OwnLaws
+pub mod PushLaws
+pub mod Reads
+pub mod ReadsMoved
+pub mod ReadsOwn
+pub mod Rows
+pub mod Spoken
+pub mod SpotLaws
+pub mod WriteKnown
+pub mod Writes
+pub mod WritesLaws
+pub mod WrittenTablePages
+pub mod WrittenTablePagesLaws

@@ -1,0 +1,23 @@
+-- Where tables stand, and versions of records in tables that grow or that their writer has made.
+pub mod BackFor
+pub mod FirstFor
+pub mod FirstGrown
+pub mod Growing
+pub mod GrowingLaws
+pub mod GrowthEvery
+pub mod GrowthFor
+pub mod LayoutStays
+pub mod MoveFor
+pub mod MoveGrown
+pub mod OneChain
+pub mod OneLayout
+pub mod OneTable
+pub mod OutSteps
+pub mod OwnBatch
+pub mod PushFor
+pub mod PushGrown
+pub mod ReplaceFor
+pub mod StandOwners
+pub mod Stands
+pub mod TableLaws
+pub mod TableOwners
