@@ -17,7 +17,7 @@ pub enum Call {
     Next { session: Session, polls: u32 },
     /// A changed page is written.
     Flush,
-    /// A record is collected. It does nothing so far.
+    /// A record is collected. It does nothing: what a statement visits is collected behind the step that visits it.
     Collect,
     /// A step of a sweep. It does nothing so far.
     Sweep,

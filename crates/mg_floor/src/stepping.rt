@@ -1,4 +1,4 @@
-//! One step of a statement that has begun.
+//! One step of a statement that has begun, and what it visited by it is collected.
 
 ghost use Rattle.std.specs.Prelude.{◌≡◌, ◌<◌, ◌++◌, ℕ, List, length};
 ghost use Rattle.mg_model.specs.declared.opening.Opening.{Opening};
@@ -16,14 +16,14 @@ ghost use Rattle.mg_floor.specs.Trying.{TriesOnce, waits_so};
 
 use crate::giving_up::give_up_one;
 use mg_base::TxNo;
-use mg_courses::{Statements, Stepped, step};
+use mg_courses::{Stepped, Tends, step_on};
 use mg_interleavings::Answered;
 use mg_pending::Sessions;
 use mg_script::Reply;
 use std::alloc::Global;
 
-/// The statement at a place takes one step, and is kept where it goes on later.
-pub(crate) fn step_at<R: Statements>(
+/// The statement at a place takes one step, what it visited by it is collected, and it is kept where it goes on later.
+pub(crate) fn step_at<R: Tends>(
     r: &mut R,
     alloc: Global,
     sessions: &mut Sessions<R::Run>,
@@ -44,13 +44,13 @@ where
 {
     let going = sessions.take_out(place);
     let mut work = going.work;
-    let stepped = step(r, alloc, going.transaction, &mut work);
+    let stepped = step_on(r, alloc, going.transaction, &mut work);
     sessions.keep(going.session, going.transaction, work, stepped)
 }
 
 /// The statement at a place, which waits for a transaction that is live still, is tried once more. Where it comes to
 /// wait for that again, it has waited too long, and is given up.
-pub(crate) fn try_once<R: Statements>(
+pub(crate) fn try_once<R: Tends>(
     r: &mut R,
     alloc: Global,
     sessions: &mut Sessions<R::Run>,
@@ -71,7 +71,7 @@ where
 {
     let trying = sessions.take_out(place);
     let mut work = trying.work;
-    let stepped = step(r, alloc, trying.transaction, &mut work);
+    let stepped = step_on(r, alloc, trying.transaction, &mut work);
     if waits_for(&stepped, on) {
         return give_up_one(r, sessions, trying.session, trying.transaction, on);
     }

@@ -12,8 +12,8 @@ use Rattle.mg_floor.specs.Trying.{TriesOnce}
 use Rattle.mg_floor.proofs.SteppingLemmas.{given_up_account, stepped_ready, tried_given_up, tried_kept, waits_ready}
 use Rattle.mg_floor.proofs.stepping.try_once.Goals as goal
 
-pub step-stepped-requires : goal.step-stepped-requires
-step-stepped-requires g c = record {
+pub step_on-stepped-requires : goal.step_on-stepped-requires
+step_on-stepped-requires g c = record {
   ready = (taken_can g.R.Records.meaning g.R.Statements.runs c.args.r.now c.args.sessions.now.transactions
       c.args.sessions.now.pending.items c.args.place c.take_out-trying.result c.requires.inside
       c.take_out-trying.ensures.taken c.requires.ready).ready;
@@ -33,13 +33,13 @@ give_up_one-requires-clause-ready g c =
     let runs = g.R.Statements.runs in
     let all = c.args.sessions.now.transactions in
     let ps = c.args.sessions.now.pending.items in
-    ready_as m runs c.step-stepped.new.r all c.take_out-trying.new.self.transactions (remove ps c.args.place)
+    ready_as m runs c.step_on-stepped.new.r all c.take_out-trying.new.self.transactions (remove ps c.args.place)
     c.take_out-trying.new.self.pending.items c.take_out-trying.ensures.transactions c.take_out-trying.ensures.pending
     (waits_ready m runs g.met.R.Records.one g.met.R.Records.lasts (works_stay_at m runs g.met.R.Statements.courses)
-    (works_stay_ready m runs g.met.R.Statements.stay) c.args.r.now c.step-stepped.new.r all ps c.args.place
-    c.take_out-trying.result c.requires.inside c.take_out-trying.ensures.taken c.requires.ready c.step-stepped.result
-    c.step-stepped.new.work c.step-stepped.ensures.frames c.args.on (sym c.waits_for.ensures ∙ c.if-waits_for.true)
-    c.step-stepped.ensures.sessions)
+    (works_stay_ready m runs g.met.R.Statements.stay) c.args.r.now c.step_on-stepped.new.r all ps c.args.place
+    c.take_out-trying.result c.requires.inside c.take_out-trying.ensures.taken c.requires.ready c.step_on-stepped.result
+    c.step_on-stepped.new.work c.step_on-stepped.ensures.frames c.args.on (sym c.waits_for.ensures ∙ c.if-waits_for.true)
+    c.step_on-stepped.ensures.sessions)
 
 pub give_up_one-requires-clause-its : goal.give_up_one-requires-clause-its
 give_up_one-requires-clause-its g c =
@@ -70,13 +70,13 @@ returns-then-waits_for-clause-does g c = λ o h us d stand s.
     let ps = c.args.sessions.now.pending.items in
     let left = c.take_out-trying.new.self in
     tried_given_up m runs g.met.R.Records.one g.met.R.Records.lasts (works_stay_at m runs g.met.R.Statements.courses)
-    (works_stay_ready m runs g.met.R.Statements.stay) c.args.r.now c.step-stepped.new.r all ps c.args.place
-    c.take_out-trying.result c.requires.inside c.take_out-trying.ensures.taken c.requires.ready c.step-stepped.result
-    c.step-stepped.new.work c.step-stepped.ensures.frames o h us d stand s c.step-stepped.ensures.steps c.args.on
+    (works_stay_ready m runs g.met.R.Statements.stay) c.args.r.now c.step_on-stepped.new.r all ps c.args.place
+    c.take_out-trying.result c.requires.inside c.take_out-trying.ensures.taken c.requires.ready c.step_on-stepped.result
+    c.step_on-stepped.new.work c.step_on-stepped.ensures.frames o h us d stand s c.step_on-stepped.ensures.steps c.args.on
     (sym c.waits_for.ensures ∙ c.if-waits_for.true) c.give_up_one.new.r c.give_up_one.new.sessions.transactions
     c.give_up_one.new.sessions.pending.items c.give_up_one.result
     (λ o h us there. c.give_up_one.ensures.does o h us
-    (stand_as m runs c.step-stepped.new.r o h all left.transactions (remove ps c.args.place) left.pending.items us
+    (stand_as m runs c.step_on-stepped.new.r o h all left.transactions (remove ps c.args.place) left.pending.items us
     c.take_out-trying.ensures.transactions c.take_out-trying.ensures.pending there))
 
 pub returns-then-waits_for-clause-accounts : goal.returns-then-waits_for-clause-accounts
@@ -84,10 +84,10 @@ returns-then-waits_for-clause-accounts g c =
     let m = g.R.Records.meaning in
     let runs = g.R.Statements.runs in
     given_up_account m runs g.met.R.Records.one g.met.R.Records.lasts (works_stay_at m runs g.met.R.Statements.courses)
-    (works_stay_ready m runs g.met.R.Statements.stay) c.args.r.now c.step-stepped.new.r c.args.sessions.now.transactions
+    (works_stay_ready m runs g.met.R.Statements.stay) c.args.r.now c.step_on-stepped.new.r c.args.sessions.now.transactions
     c.args.sessions.now.pending.items c.args.place c.take_out-trying.result c.requires.inside
-    c.take_out-trying.ensures.taken c.requires.ready c.step-stepped.result c.step-stepped.new.work
-    c.step-stepped.ensures.frames c.args.on (sym c.waits_for.ensures ∙ c.if-waits_for.true) c.give_up_one.new.r
+    c.take_out-trying.ensures.taken c.requires.ready c.step_on-stepped.result c.step_on-stepped.new.work
+    c.step_on-stepped.ensures.frames c.args.on (sym c.waits_for.ensures ∙ c.if-waits_for.true) c.give_up_one.new.r
     c.give_up_one.result c.give_up_one.ensures.accounts
 
 -- ---- it does not
@@ -99,17 +99,17 @@ returns-clause-ready g c =
     let all = c.args.sessions.now.transactions in
     let ps = c.args.sessions.now.pending.items in
     let p = c.take_out-trying.result in
-    let stepped = c.step-stepped.result in
-    ready_as m runs c.step-stepped.new.r (transactions_after p.session.0 stepped all) c.keep.new.self.transactions
-    (pending_after p.session p.transaction c.step-stepped.new.work stepped (remove ps c.args.place))
+    let stepped = c.step_on-stepped.result in
+    ready_as m runs c.step_on-stepped.new.r (transactions_after p.session.0 stepped all) c.keep.new.self.transactions
+    (pending_after p.session p.transaction c.step_on-stepped.new.work stepped (remove ps c.args.place))
     c.keep.new.self.pending.items
     (c.keep.ensures.transactions ∙ ap (transactions_after p.session.0 stepped) c.take_out-trying.ensures.transactions)
     (c.keep.ensures.pending
-    ∙ ap (pending_after p.session p.transaction c.step-stepped.new.work stepped) c.take_out-trying.ensures.pending)
+    ∙ ap (pending_after p.session p.transaction c.step_on-stepped.new.work stepped) c.take_out-trying.ensures.pending)
     (stepped_ready m runs g.met.R.Records.one g.met.R.Records.lasts (works_stay_at m runs g.met.R.Statements.courses)
-    (works_stay_ready m runs g.met.R.Statements.stay) c.args.r.now c.step-stepped.new.r all ps c.args.place p
-    c.requires.inside c.take_out-trying.ensures.taken c.requires.ready stepped c.step-stepped.new.work
-    c.step-stepped.ensures.frames c.step-stepped.ensures.sessions c.step-stepped.ensures.ready)
+    (works_stay_ready m runs g.met.R.Statements.stay) c.args.r.now c.step_on-stepped.new.r all ps c.args.place p
+    c.requires.inside c.take_out-trying.ensures.taken c.requires.ready stepped c.step_on-stepped.new.work
+    c.step_on-stepped.ensures.frames c.step_on-stepped.ensures.sessions c.step_on-stepped.ensures.ready)
 
 pub returns-clause-does : goal.returns-clause-does
 returns-clause-does g c = λ o h us d stand s.
@@ -118,19 +118,19 @@ returns-clause-does g c = λ o h us d stand s.
     let all = c.args.sessions.now.transactions in
     let ps = c.args.sessions.now.pending.items in
     let p = c.take_out-trying.result in
-    let stepped = c.step-stepped.result in
-    comes_as m runs c.args.r.now c.step-stepped.new.r o h (transactions_after p.session.0 stepped all)
+    let stepped = c.step_on-stepped.result in
+    comes_as m runs c.args.r.now c.step_on-stepped.new.r o h (transactions_after p.session.0 stepped all)
     c.keep.new.self.transactions
-    (pending_after p.session p.transaction c.step-stepped.new.work stepped (remove ps c.args.place))
+    (pending_after p.session p.transaction c.step_on-stepped.new.work stepped (remove ps c.args.place))
     c.keep.new.self.pending.items
     (λ (reply : Reply). TriesOnce o h s.one (s.before ++ s.behind) c.args.on (Replied reply)) (reply_of_step stepped)
     c.keep.result
     (c.keep.ensures.transactions ∙ ap (transactions_after p.session.0 stepped) c.take_out-trying.ensures.transactions)
     (c.keep.ensures.pending
-    ∙ ap (pending_after p.session p.transaction c.step-stepped.new.work stepped) c.take_out-trying.ensures.pending)
+    ∙ ap (pending_after p.session p.transaction c.step_on-stepped.new.work stepped) c.take_out-trying.ensures.pending)
     c.keep.ensures.reply
     (tried_kept m runs g.met.R.Records.one g.met.R.Records.lasts (works_stay_at m runs g.met.R.Statements.courses)
-    (works_stay_ready m runs g.met.R.Statements.stay) c.args.r.now c.step-stepped.new.r all ps c.args.place p
-    c.requires.inside c.take_out-trying.ensures.taken c.requires.ready stepped c.step-stepped.new.work
-    c.step-stepped.ensures.frames o h us d stand s c.step-stepped.ensures.steps c.args.on
+    (works_stay_ready m runs g.met.R.Statements.stay) c.args.r.now c.step_on-stepped.new.r all ps c.args.place p
+    c.requires.inside c.take_out-trying.ensures.taken c.requires.ready stepped c.step_on-stepped.new.work
+    c.step_on-stepped.ensures.frames o h us d stand s c.step_on-stepped.ensures.steps c.args.on
     (sym c.waits_for.ensures ∙ c.if-waits_for.false))
