@@ -31,6 +31,7 @@ use Rattle.mg_pool.specs.Pool.{shown}
 use Rattle.mg_pool.specs.declared.pool.Pool.{Pool}
 use Rattle.mg_pool_overlays.specs.Needs.{Asked, Sessions}
 use Rattle.mg_ties.specs.Changed.{KeptIn, fresh}
+use Rattle.mg_entry_steps.specs.EntryBatchLaws.{has_now, kept_then, shows_entries}
 use Rattle.mg_entry_steps.specs.EntryStays.{EntriesStay, HasEntered}
 
 -- ---- the law
