@@ -8,6 +8,7 @@ use Rattle.mg_base.specs.declared.geometry.Geometry.{Geometry}
 use Rattle.mg_core.specs.Cores.{IsCore}
 use Rattle.mg_core.specs.declared.parts.Core.{Core}
 use Rattle.mg_directory.specs.Candidates.{by_table}
+use Rattle.mg_engine_meaning.specs.KnownRecords.{KnowsIts}
 use Rattle.mg_engine_meaning.specs.Standings.{ShowsIt, StandsFor, StandsWhile, asked_in, sessions_in, standing_of}
 use Rattle.mg_engine_meaning.specs.StepLaws.{as_standing}
 use Rattle.mg_engine_steps.specs.standing.Standing.{Standing}
@@ -18,7 +19,6 @@ use Rattle.mg_model.specs.History.{Entries}
 use Rattle.mg_model.specs.declared.opening.Opening.{Opening}
 use Rattle.mg_model.specs.declared.table.Index.{Index}
 use Rattle.mg_node.specs.declared.entry.Entry.{Entry}
-use Rattle.mg_noted.specs.Noted.{HasDirectories}
 use Rattle.mg_pool.specs.Pool.{IsPool, shown}
 use Rattle.mg_pool.specs.declared.pool.Pool.{Pool}
 use Rattle.mg_space.specs.declared.links.FireLinks.{FireLinks}
@@ -55,8 +55,8 @@ module _ {D : Type 0} (m : Meaning D) (old : Core D) (core : IsCore m old) (a b 
     catalog = it.shows.catalog ∙ sym laid.keeps.catalog;
     plain_tables = laid.left.plain;
     no_directory = it.shows.no_directory;
-    noted = subst (λ (g : Geometry). HasDirectories g.size (said old.list) (shown b.dirty laid.image) old.directories)
-        (sym geometry) (laid.noted (by_table old.directories.dirs) it.shows.noted);
+    known = subst (λ (g : Geometry). KnowsIts o.next.0 g.size (said old.list) (shown b.dirty laid.image) old.directories)
+        (sym geometry) (laid.known o.next.0 (by_table old.directories.dirs) it.shows.known);
   }
 
   abbrev stands_now : StandsFor m (record old { store = b }) o h

@@ -50,7 +50,7 @@ use Rattle.mg_txlist.specs.declared.list.TxList.{TxList}
 use Rattle.mg_value.specs.declared.value.Value.{Value}
 use Rattle.mg_engine_meaning.specs.PlainTables.{HasPlainTables}
 use Rattle.mg_engine_meaning.specs.Standings.{HasTips}
-use Rattle.mg_engine_changes.specs.memory.Directories.{StaysNoted}
+use Rattle.mg_engine_changes.specs.memory.Directories.{StaysKnown}
 use Rattle.mg_engine_changes.specs.memory.RecordChanges.{grown_keeps}
 use Rattle.mg_engine_changes.specs.rows.PlainLaws.{grown_keeps_plain}
 use Rattle.mg_engine_changes.specs.rows.Tips.{KeepsTips}
@@ -88,7 +88,7 @@ pub record StaysEntered {D : Type 0} (m : Meaning D) (o : Opening) (h : Entries)
   pub lasts : LastsOn m packed_form o h after asked session
   pub leaves : LeavesSince m before.disk after.disk (HoldsAcknowledged packed_form before.dirty.size o h)
   pub others : OthersWalkOn before.geometry.size s was (shown after.dirty image) t
-  pub noted : StaysNoted before.geometry.size s.state was (shown after.dirty image)
+  pub known : StaysKnown before.geometry.size s.state was (shown after.dirty image)
   pub left : ShowsEntered after.geometry.size o h s list was (shown after.dirty image) layout reading
       speaker indexes root e
 
@@ -196,7 +196,7 @@ module _ (one : RowsAreOne packed_coding) (one_way : StandsOneWay packed_form) (
     lasts = entered.stays.lasts;
     leaves = entered.stays.leaves;
     others = others;
-    noted = grown_keeps one_way size s.state pool later shows.layout entered.shows.layout shows.reading shows.sound
+    known = grown_keeps one_way size s.state pool later shows.layout entered.shows.layout shows.reading shows.sound
         entered.shows.sound entered.shows.grown.stays;
     left = subst (λ (g : Geometry). ShowsEntered g.size o h s list pool (shown after.dirty j) shows.layout
         shows.reading shows.versions.speaker table.indexes root e) (sym geometry) shows_now;

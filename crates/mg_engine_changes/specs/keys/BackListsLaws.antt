@@ -4,7 +4,7 @@ use Rattle.mg_base.specs.Disk.{Meaning}
 use Rattle.mg_base.specs.Image.{Image}
 use Rattle.mg_base.specs.declared.numbers.RecId.{RecId}
 use Rattle.mg_base.specs.declared.transaction.TxState.{TxState}
-use Rattle.mg_engine_changes.specs.memory.RecordChanges.{back_noted, grown_keeps}
+use Rattle.mg_engine_changes.specs.memory.RecordChanges.{back_known, grown_keeps}
 use Rattle.mg_engine_changes.specs.entries.EntryStages.{entries_keep_tips}
 use Rattle.mg_engine_changes.specs.rows.PlainLaws.{grown_keeps_plain}
 use Rattle.mg_entry_steps.specs.EntryMidway.{EntriesStayMidway}
@@ -263,7 +263,7 @@ module _ {D L : Type 0} (m : Meaning D) (one : RowsAreOne packed_coding) (move :
         midway.pages.layout on.entries.layout midway.pages.reading laid.entry.rec midway.pages.sound on.entries.sound
         on.entries.grown (λ chosen. pool_is_kept packed_form D L size o (again t left (e ∷ h)) s.state asked session
         before i chosen midway.cache.kept);
-    noted = grown_keeps one_way size s.state (shown before.dirty i) (shown after.dirty j) midway.pages.layout
+    known = grown_keeps one_way size s.state (shown before.dirty i) (shown after.dirty j) midway.pages.layout
         on.entries.layout midway.pages.reading midway.pages.sound on.entries.sound on.entries.grown.stays;
   }
     where
