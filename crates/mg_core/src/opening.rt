@@ -1,5 +1,6 @@
 //! The opening of a disk, and the closing of a database.
 
+ghost use Rattle.std.specs.Prelude.{◌≤◌};
 ghost use Rattle.mg_pool.specs.Fault.{OnlyWrites};
 ghost use Rattle.mg_core.specs.Cores.{IsCore};
 ghost use Rattle.mg_core.specs.Opening.{ClosesDisk, IsAnswer, IsOpenRefusal, OpensDisk};
@@ -21,7 +22,8 @@ impl<D: Disk> Core<D> {
     /// catalog are read and tested, as pages. Its rows are read when a table is asked for.
     ///
     /// The page limit is the greatest of `limit`, the disk's number of pages, and the seven of a new database;
-    /// the disk never has more pages than that. Pages from 131,072 on are neither read nor written.
+    /// the disk never has more pages than that. Pages from 131,072 on are neither read nor written. At most
+    /// `clean` clean pages are kept in memory.
     ///
     /// # Errors
     ///
@@ -29,10 +31,11 @@ impl<D: Disk> Core<D> {
     /// of page 0 is the first that differs, as of a file whose page 0 alone is zero; `Damaged` at a field of
     /// page 0 or of a transaction inventory page, or else at the first of the catalog's pages that is missing
     /// or not as wanted at its place; `Memory`. The disk comes back.
-    pub fn open(alloc: Global, disk: D, limit: u32) -> Result<Core<D>, (D, Refusal)>
+    pub fn open(alloc: Global, disk: D, limit: u32, clean: u32) -> Result<Core<D>, (D, Refusal)>
+        requires { 1 ≤ clean }
         ensures { OpensDisk D.meaning disk limit result }
     {
-        let mut store = match prepare(alloc, disk, limit) {
+        let mut store = match prepare(alloc, disk, limit, clean) {
             Ok(store) => store,
             Err((disk, fault)) => return Err((disk, open_refusal(fault, limit))),
         };

@@ -18,13 +18,20 @@ use std::alloc::Global;
 /// written first, its header last; any other disk is not written.
 ///
 /// The page limit is the greater of `limit` and the disk's number of pages, and at least seven, as many as a
-/// new database has. No page past it is written. Where page 0 is not zero, no other page is read.
+/// new database has. No page past it is written. Where page 0 is not zero, no other page is read. At most
+/// `clean` clean pages are kept in memory.
 ///
 /// # Errors
 ///
 /// `Pool` alone: `DiskRead` of the disk's first calls; `Memory`; `DiskWrite` only where a new database is
 /// written. The disk comes back.
-pub fn prepare<D: Disk>(alloc: Global, disk: D, limit: u32) -> Result<Store<D>, (D, OpenFault)>
+pub fn prepare<D: Disk>(
+    alloc: Global,
+    disk: D,
+    limit: u32,
+    clean: u32,
+) -> Result<Store<D>, (D, OpenFault)>
+    requires { 1 ≤ clean }
     ensures { PreparesDisk D.meaning disk limit result }
 {
     let mut disk = disk;
@@ -32,7 +39,7 @@ pub fn prepare<D: Disk>(alloc: Global, disk: D, limit: u32) -> Result<Store<D>, 
         Ok(surveyed) => surveyed,
         Err(_) => return Err((disk, of_pool(PoolFault::DiskRead { faults: 1 }))),
     };
-    let mut store = match Pool::new(alloc, disk, surveyed.geometry) {
+    let mut store = match Pool::with_cache(alloc, disk, surveyed.geometry, clean) {
         Ok(store) => store,
         Err((disk, _)) => return Err((disk, of_pool(PoolFault::Memory))),
     };

@@ -1,6 +1,6 @@
 //! An engine is opened over a disk, and closed.
 
-ghost use Rattle.std.specs.Prelude.{◌≡◌};
+ghost use Rattle.std.specs.Prelude.{◌≡◌, ◌≤◌};
 ghost use Rattle.mg_core.specs.Cores.{IsCore};
 ghost use Rattle.mg_engine_meaning.specs.Closings.{ClosesEngine};
 ghost use Rattle.mg_engine_meaning.specs.Openings.{OpensEngine};
@@ -10,9 +10,21 @@ use mg_base::Disk;
 use mg_core::Core;
 use mg_engine_meaning::{closings_leave, openings_stand};
 use mg_model::Refusal;
+use mg_pool::CLEAN_PAGES;
 use std::alloc::Global;
 
 impl<D: Disk> Engine<D> {
+    /// As `open_with`, with room for `CLEAN_PAGES` clean pages in memory.
+    ///
+    /// # Errors
+    ///
+    /// As `open_with`.
+    pub fn open(alloc: Global, disk: D, limit: u32) -> Result<Engine<D>, (D, Refusal)>
+        ensures { OpensEngine D.meaning disk limit result }
+    {
+        Engine::open_with(alloc, disk, limit, CLEAN_PAGES)
+    }
+
     /// Opens a disk. On one on which a database may be made a new one is written first, its header last; any
     /// other is not written. Then page 0 and the transaction inventory pages are read, and the pages of the
     /// catalog are read and tested, as pages: no record is read.
@@ -25,17 +37,25 @@ impl<D: Disk> Engine<D> {
     /// The page limit is the greatest of `limit`, the disk's number of pages, and the seven of a new database; the disk
     /// never has more pages than that. Pages from 131,072 on are neither read nor written.
     ///
+    /// At most `clean` clean pages are kept in memory.
+    ///
     /// # Errors
     ///
     /// `NotADatabase` exactly where that field of page 0 is the first that differs, as of a file whose page 0
     /// alone is zero; `Damaged` at a field of page 0 or of a transaction inventory page, or at the first of the
     /// catalog's pages that is missing or not as wanted at its place, none of them of a sound image; `DiskRead`;
     /// `DiskWrite` only where a new database is written; `Memory`. The disk comes back.
-    pub fn open(alloc: Global, disk: D, limit: u32) -> Result<Engine<D>, (D, Refusal)>
+    pub fn open_with(
+        alloc: Global,
+        disk: D,
+        limit: u32,
+        clean: u32,
+    ) -> Result<Engine<D>, (D, Refusal)>
+        requires { 1 ≤ clean }
         ensures { OpensEngine D.meaning disk limit result }
     {
         openings_stand::<D>();
-        match Core::open(alloc, disk, limit) {
+        match Core::open(alloc, disk, limit, clean) {
             Ok(core) => Ok(Engine::new(core)),
             Err((disk, refusal)) => Err((disk, refusal)),
         }

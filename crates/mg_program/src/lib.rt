@@ -1,8 +1,8 @@
 //! The program as one call: a command line is obeyed on a disk, and ends with a status.
 //!
-//! Owns: `mgdb`, the top call, which reads the words and is what a `main` calls; `run`, which obeys the script of `run DB`
-//! on a disk that it opens and closes. Within: the lines on an engine (`serving`). `gfix DB list` is the call of another
-//! crate, on a disk that no engine opens.
+//! Owns: `mgdb`, the top call, which reads the words and is what a `main` calls (`mgdb_with` for another number of clean
+//! pages in memory); `run`, which obeys the script of `run DB` on a disk that it opens and closes. Within: the lines on
+//! an engine (`serving`). `gfix DB list` is the call of another crate, on a disk that no engine opens.
 //!
 //! The script is read whole before the disk is first asked. Where nothing stops the run, what is live at its end is
 //! rolled back and the database is closed; where something does, nothing is written any more, and the disk is left as a
@@ -23,7 +23,8 @@ mod serving;
 mod top;
 
 pub use laws::{acknowledged_commits_are_held, runs_are_complete};
+pub use mg_pool::CLEAN_PAGES;
 pub use mg_run_ends::{RunEnd, SCRIPT_MOST, Status};
 pub use mg_words::wanted_page;
 pub use running::run;
-pub use top::{Shelf, mgdb};
+pub use top::{Shelf, mgdb, mgdb_with};

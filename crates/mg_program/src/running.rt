@@ -1,6 +1,6 @@
 //! The command `run`: a script is obeyed on a disk.
 
-ghost use Rattle.std.specs.Prelude.{◌≡◌, ℕ, List, Some};
+ghost use Rattle.std.specs.Prelude.{◌≡◌, ◌≤◌, ℕ, List, Some};
 ghost use Rattle.mg_base.specs.Image.{Image};
 ghost use Rattle.mg_model.specs.declared.opening.Opening.{Opening};
 ghost use Rattle.mg_run_ends.specs.Ends.{EndsWith};
@@ -26,13 +26,17 @@ use std::alloc::Global;
 /// than the disk had, if that is greater, or than a new database has (`within` of `Headline`). Where as many pages are
 /// free by it at the start as the lines may take, none of them is answered DATABASE FULL; where one is, it names this
 /// number (`room`).
+///
+/// `clean` is how many clean pages are kept in memory, at least one.
 pub fn run<D: GrowingDisk, S: Source, K: Sink>(
     alloc: Global,
     disk: D,
     limit: u32,
+    clean: u32,
     source: &mut S,
     sink: &mut K,
 ) -> (RunEnd, D)
+    requires { 1 ≤ clean }
     ensures disk { EndsWith D.meaning disk result.1 result.0 }
     ensures most_writes { D.meaning.most_writes result.1 ≡ D.meaning.most_writes disk }
     ensures streams { StreamCauses S.meaning K.meaning source.old source.new sink.old sink.new result.0 }
@@ -45,7 +49,7 @@ pub fn run<D: GrowingDisk, S: Source, K: Sink>(
 {
     lines_of_scripts_can_be_obeyed();
     match read_lines(alloc, source) {
-        Ok(script) => serve(alloc, disk, limit, script.as_slice(), sink),
+        Ok(script) => serve(alloc, disk, limit, clean, script.as_slice(), sink),
         Err(end) => (say_end(alloc, end, sink), disk),
     }
 }

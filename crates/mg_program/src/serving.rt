@@ -1,6 +1,6 @@
 //! The lines of a script are obeyed on a disk.
 
-ghost use Rattle.std.specs.Prelude.{◌≡◌, ℕ, All, List, false};
+ghost use Rattle.std.specs.Prelude.{◌≡◌, ◌≤◌, ℕ, All, List, false};
 ghost use Rattle.mg_engine.specs.Places.{places};
 ghost use Rattle.mg_engine_meaning.specs.Openings.{IsOpenedOver};
 ghost use Rattle.mg_works.specs.Works.{has_session};
@@ -28,21 +28,23 @@ use std::alloc::Global;
 
 /// Opens a disk, obeys lines on it, and puts behind what they print the line that says why the run has ended.
 ///
-/// `limit` is the page limit that is asked for.
+/// `limit` is the page limit that is asked for, and `clean` how many clean pages are kept in memory.
 pub(crate) fn serve<D: GrowingDisk, K: Sink>(
     alloc: Global,
     disk: D,
     limit: u32,
+    clean: u32,
     lines: &[Line],
     sink: &mut K,
 ) -> (RunEnd, D)
-    requires { All CanBeObeyed lines.now }
+    requires obeyable { All CanBeObeyed lines.now }
+    requires some { 1 ≤ clean }
     ensures { Serves D.meaning K.meaning limit lines.now disk result.1 sink.old sink.new result.0 }
 {
     openings_are_judged::<D, K>();
     other_files_are_refused::<D, K>();
     openings_fail::<D>();
-    match Engine::open(alloc, disk, limit) {
+    match Engine::open_with(alloc, disk, limit, clean) {
         Ok(engine) => obey(alloc, engine, lines, sink),
         Err((disk, refusal)) => (say_end(alloc, RunEnd::Outside(refusal), sink), disk),
     }

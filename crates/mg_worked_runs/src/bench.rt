@@ -1,9 +1,11 @@
 //! The disk that runs work on, and a call of the program on it.
 
+ghost use Rattle.std.specs.Prelude.{◌≤◌};
+
 use crate::reading::words_of;
 use mg_base::{Disk, FaultyDisk, MemDisk, MemSink, MemSource, Memory, PageNo, is_page_size};
 use mg_fuse::CountsWrites;
-use mg_program::{Shelf, mgdb};
+use mg_program::{CLEAN_PAGES, Shelf, mgdb_with};
 use std::alloc::Global;
 
 /// The bytes for which a run's sink has room.
@@ -38,6 +40,17 @@ pub struct Bench {
     /// Which call of the source or of the sink fails in the next run, 0 for none.
     pub bad_take: u32,
     pub bad_put: u32,
+    /// How many clean pages each run keeps in memory.
+    pub clean: u32,
+}
+
+/// What is asked of a run beside its words.
+#[derive(Clone, Copy)]
+struct Setting {
+    /// Which call of the source, and which of the sink fails, 0 for none.
+    bad: (u32, u32),
+    /// How many clean pages are kept in memory.
+    clean: u32,
 }
 
 /// What goes wrong with the disk in a run.
@@ -131,6 +144,7 @@ impl Bench {
             written: 0,
             bad_take: 0,
             bad_put: 0,
+            clean: CLEAN_PAGES,
         })
     }
 
@@ -156,6 +170,7 @@ impl Bench {
             written: 0,
             bad_take: self.bad_take,
             bad_put: self.bad_put,
+            clean: self.clean,
         })
     }
 
@@ -244,11 +259,14 @@ impl Bench {
         script: &str,
         mishap: Mishap,
     ) -> Result<Said, Memory> {
-        let bad = (self.bad_take, self.bad_put);
+        let setting = Setting {
+            bad: (self.bad_take, self.bad_put),
+            clean: self.clean,
+        };
         let words = command(rt.alloc(), line, mishap)?;
         let disk = copy_of(rt.alloc(), &mut self.disk, self.frame, u32::MAX)?;
         let before = disk.writes();
-        let (said, disk) = call_on(rt, &words, disk, script, mishap, bad)?;
+        let (said, disk) = call_on(rt, &words, disk, script, mishap, setting)?;
         let obeyed = disk.writes().saturating_sub(before);
         self.written = self.written.saturating_add(obeyed);
         self.keep(disk);
@@ -291,11 +309,11 @@ fn call_on(
     disk: MemDisk,
     script: &str,
     mishap: Mishap,
-    bad: (u32, u32),
+    setting: Setting,
 ) -> Result<(Said, MemDisk), Memory> {
     match mishap {
-        Mishap::Fail(call) => call_on_faulty(rt, words, disk, script, call, bad),
-        Mishap::Nothing | Mishap::Stop(_) => call_program(rt, words, disk, script, bad),
+        Mishap::Fail(call) => call_on_faulty(rt, words, disk, script, call, setting),
+        Mishap::Nothing | Mishap::Stop(_) => call_program(rt, words, disk, script, setting),
     }
 }
 
@@ -306,10 +324,10 @@ fn call_on_faulty(
     disk: MemDisk,
     script: &str,
     call: u32,
-    bad: (u32, u32),
+    setting: Setting,
 ) -> Result<(Said, MemDisk), Memory> {
     let faulty = FaultyDisk::new(disk, bad_calls(rt.alloc(), call)?);
-    let (said, faulty) = call_program(rt, words, faulty, script, bad)?;
+    let (said, faulty) = call_program(rt, words, faulty, script, setting)?;
     Ok((said, faulty.into_inner()))
 }
 
@@ -354,11 +372,19 @@ fn printed_in(alloc: Global, sink: &MemSink) -> Result<String, Memory> {
     }
 }
 
+// A number, or one where it is 0.
+fn one_at_least(count: u32) -> u32
+    ensures { 1 ≤ result }
+{
+    if count == 0 { 1 } else { count }
+}
+
 // Calls the program, and tells its status. What the call promises ends here: nothing below needs it.
 fn call<D: CountsWrites + Drop + Send + 'static>(
     rt: &HostRuntime,
     words: &[String],
     disk: D,
+    clean: u32,
     source: &mut MemSource,
     sink: &mut MemSink,
 ) -> Result<(u8, D), Memory> {
@@ -367,7 +393,7 @@ fn call<D: CountsWrites + Drop + Send + 'static>(
         first: disk,
         second: None,
     };
-    let (status, shelf) = mgdb(rt, words, shelf, source, sink);
+    let (status, shelf) = mgdb_with(rt, words, shelf, source, sink, one_at_least(clean));
     let Shelf { first, second: _ } = shelf;
     Ok((status.0, first))
 }
@@ -378,11 +404,11 @@ fn call_program<D: CountsWrites + Drop + Send + 'static>(
     words: &[String],
     disk: D,
     script: &str,
-    bad: (u32, u32),
+    setting: Setting,
 ) -> Result<(Said, D), Memory> {
-    let mut source = new_source(rt.alloc(), script, bad.0)?;
-    let mut sink = new_sink(rt.alloc(), bad.1)?;
-    let (status, disk) = call(rt, words, disk, &mut source, &mut sink)?;
+    let mut source = new_source(rt.alloc(), script, setting.bad.0)?;
+    let mut sink = new_sink(rt.alloc(), setting.bad.1)?;
+    let (status, disk) = call(rt, words, disk, setting.clean, &mut source, &mut sink)?;
     let printed = printed_in(rt.alloc(), &sink)?;
     Ok((Said { status, printed }, disk))
 }

@@ -19,6 +19,7 @@
 //! | `% zero PAGE` | each byte of the page becomes 0 |
 //! | `% cut PAGES BYTES` | the disk keeps so many pages, and of the next one so many bytes, with zeros behind them |
 //! | `% take N`, `% put N` | in the next run the N-th call of the source or of the sink fails |
+//! | `% cache N` | runs on this disk keep at most N clean pages in memory from now on, 1 where N is 0; without this line 1024 |
 //! | `% stops FROM TO` | the block of lines up to `% end`, once for each N from FROM to TO, on a copy of the disk: the first run of it with `--stop N`, of which the last line is written alone |
 //! | `% fails FROM TO` | the same, where the N-th call of the disk in that first run fails |
 //! | other lines | prose, which is repeated |

@@ -21,6 +21,7 @@ pub enum Verb {
     Cut,
     Take,
     Put,
+    Cache,
     Stops,
     Fails,
     End,
@@ -38,7 +39,7 @@ pub struct Step {
 }
 
 /// The words of the lines that begin with `%`, and how many numbers follow each.
-const VERBS: [(&str, usize, Verb); 12] = [
+const VERBS: [(&str, usize, Verb); 13] = [
     ("disk", 3, Verb::Disk),
     ("writes", 0, Verb::Writes),
     ("pages", 0, Verb::Pages),
@@ -48,6 +49,7 @@ const VERBS: [(&str, usize, Verb); 12] = [
     ("cut", 2, Verb::Cut),
     ("take", 1, Verb::Take),
     ("put", 1, Verb::Put),
+    ("cache", 1, Verb::Cache),
     ("stops", 2, Verb::Stops),
     ("fails", 2, Verb::Fails),
     ("end", 0, Verb::End),

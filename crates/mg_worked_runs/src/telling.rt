@@ -99,9 +99,13 @@ pub fn tell_step(
         Verb::Writes | Verb::Pages | Verb::Byte => tell_disk(rt.alloc(), bench, step, out),
         Verb::Set => tell_set(rt.alloc(), bench, step.numbers, out),
         Verb::Unknown | Verb::Stops | Verb::Fails | Verb::End => put_line("no such line", out),
-        Verb::Heading | Verb::Disk | Verb::Zero | Verb::Cut | Verb::Take | Verb::Put => {
-            change(rt.alloc(), bench, step.verb, step.numbers)
-        }
+        Verb::Heading
+        | Verb::Disk
+        | Verb::Zero
+        | Verb::Cut
+        | Verb::Take
+        | Verb::Put
+        | Verb::Cache => change(rt.alloc(), bench, step.verb, step.numbers),
     }
 }
 
@@ -146,7 +150,7 @@ fn tell_set(
     put_line("no such byte", out)
 }
 
-// Changes the disk, or what is asked of the next run on it.
+// Changes the disk, or what is asked of the next runs on it.
 fn change(alloc: Global, bench: &mut Bench, verb: Verb, numbers: [u32; 3]) -> Result<(), Memory> {
     let [a, b, c] = numbers;
     match verb {
@@ -159,6 +163,10 @@ fn change(alloc: Global, bench: &mut Bench, verb: Verb, numbers: [u32; 3]) -> Re
         }
         Verb::Put => {
             bench.bad_put = a;
+            Ok(())
+        }
+        Verb::Cache => {
+            bench.clean = a;
             Ok(())
         }
         _ => bench.renew(alloc, Frame::USUAL),

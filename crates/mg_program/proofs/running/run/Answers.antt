@@ -11,8 +11,8 @@ lines_read : {S : Type 0} (s : SourceMeaning S) (source : S) (given read : List 
     → IsWholeScript s source read → IsWholeScript s source given
 lines_read s source given read same whole = subst (IsWholeScript s source) (sym same) whole
 
-pub serve-requires : goal.serve-requires
-serve-requires g c =
+pub serve-requires-clause-obeyable : goal.serve-requires-clause-obeyable
+serve-requires-clause-obeyable g c =
     let whole = lines_read g.S.Source.meaning c.args.source.now c.as_slice.result.now c.in-Ok.script c.as_slice.ensures
     c.in-Ok.ensures.0 in
     c.lines_of_scripts_can_be_obeyed.ensures whole.text c.as_slice.result.now whole.is_script

@@ -1,7 +1,7 @@
 use Rattle.std.proofs.Common.{Ok, subst, sym}
 use Rattle.mg_engine_meaning.specs.Openings.{IsOpenedOver, OpensEngine}
 use Rattle.mg_works.specs.Works.{AreApart}
-use Rattle.mg_engine.proofs.engine.Engine.open.Goals as goal
+use Rattle.mg_engine.proofs.engine.Engine.open_with.Goals as goal
 
 pub new-requires : goal.new-requires
 new-requires g c = record {

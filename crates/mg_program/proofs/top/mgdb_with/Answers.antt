@@ -3,7 +3,7 @@ use Rattle.mg_words.specs.Words.{texts}
 use Rattle.mg_commands.specs.declared.program.ProgramCommand.TheVariants.{ListLimbo, Run}
 use Rattle.mg_program.proofs.ListingLemmas.{asked_one, lists_one, listed_no_usage, listed_range}
 use Rattle.mg_program.proofs.TopLemmas.{never_usage, range_of}
-use Rattle.mg_program.proofs.top.mgdb.Goals as goal
+use Rattle.mg_program.proofs.top.mgdb_with.Goals as goal
 
 -- ---- no command line
 
