@@ -1,6 +1,7 @@
 //! The making of a table.
 
 ghost use Rattle.std.specs.Prelude.{◌≡◌, ◌≢◌};
+ghost use Rattle.mg_value.specs.Names.{IsName};
 ghost use Rattle.mg_model.specs.declared.opening.Opening.{Opening};
 ghost use Rattle.mg_model.specs.Catalog.{catalog_name};
 ghost use Rattle.mg_model.specs.History.{Entries};
@@ -19,6 +20,7 @@ use mg_value::{Name, Shape};
 /// begins with the first of its rows; where it is refused, and doesn't wait, the statement is undone,
 /// or the transaction rolled back.
 pub fn make_table<R: Records>(r: &mut R, t: TxNo, name: &Name, shape: &Shape) -> Written
+    requires named { IsName name.now }
     requires other { name.now ≢ catalog_name }
     requires shape { IsNewShape shape.now }
     requires pages { FitsPages R.meaning r.old shape.now }
@@ -39,6 +41,7 @@ pub fn make_table<R: Records>(r: &mut R, t: TxNo, name: &Name, shape: &Shape) ->
 /// Sets the mark of a statement, and makes its table. Where the mark is refused there is nothing to
 /// undo.
 pub fn mark_and_make<R: Records>(r: &mut R, t: TxNo, name: &Name, shape: &Shape) -> Written
+    requires named { IsName name.now }
     requires other { name.now ≢ catalog_name }
     requires shape { IsNewShape shape.now }
     requires pages { FitsPages R.meaning r.old shape.now }

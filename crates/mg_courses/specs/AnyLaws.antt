@@ -36,6 +36,7 @@ module _ {R P : Type 0} (m : Means R P) (old new : R) (t : ℕ) (spares : Spares
 
   creation_beside : (table : NewTable) → IsReadyToCreate m old table → IsReadyToCreate m new table
   creation_beside table ready = record {
+    named = ready.named;
     other = ready.other;
     lawful = ready.lawful;
     pages = (ready.pages.0, spares.sizes ready.pages.0 ∙ ready.pages.1, ready.pages.2);

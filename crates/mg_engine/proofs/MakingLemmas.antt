@@ -14,7 +14,7 @@ use Rattle.mg_value.specs.Names.{IsName}
 use Rattle.mg_value.specs.declared.shape.Shape.{Shape}
 use Rattle.mg_works.specs.Works.{AreApart}
 use Rattle.mg_engine.specs.Engines.{IsEngine}
-use Rattle.mg_engine_changes.specs.tables.MakingSteps.{AreNamed, CreationsKeepApart, GivesTable, MayHave, RefusalsKeepApart, TablesAreMade, TablesAreRefused}
+use Rattle.mg_engine_changes.specs.tables.MakingSteps.{CreationsKeepApart, GivesTable, MayHave, RefusalsKeepApart, TablesAreMade, TablesAreRefused}
 use Rattle.mg_engine_meaning.specs.Meaning.{Places, means}
 use Rattle.mg_engine_changes.specs.memory.Notes.{AreCounts}
 use Rattle.mg_no_damage.specs.FewPagesCalls.{CreationsTakeFew}
@@ -23,8 +23,8 @@ use Rattle.mg_engine.proofs.ToldLemmas.{room_as, undamaged_as}
 
 module _ {D P : Type 0} (m : Meaning D) (places : Places P) (inside old new : Core D) (same : inside ≡ old)
     (is : IsEngine m inside) (damage : inside.damage < 2 ^ 64) (shortages : inside.shortages < 2 ^ 64) (t : TxNo)
-    (name : List ℕ) (shape : Shape) (other : name ≢ catalog_name) (new_shape : IsNewShape shape)
-    (fits : FitsPages (means m places) old shape) (named : IsName name) (columns : AreNamed shape.columns) where
+    (name : List ℕ) (shape : Shape) (named : IsName name) (other : name ≢ catalog_name)
+    (new_shape : IsNewShape shape) (fits : FitsPages (means m places) old shape) where
   counted : AreCounts inside
   counted = record { damage = omega (arith, damage); shortages = omega (arith, shortages) }
 
@@ -33,7 +33,6 @@ module _ {D P : Type 0} (m : Meaning D) (places : Places P) (inside old new : Co
     named = named;
     other = other;
     new = new_shape;
-    columns = columns;
     fits = subst (λ (c : Core D). FitsPages (means m places) c shape) (sym same) fits;
   }
 

@@ -8,7 +8,6 @@ ghost use Rattle.mg_engine.specs.KeeperLaws.{sessions_are_one, walks_come_to_all
 
 use crate::changing::{changes_go_on, write_row};
 use crate::engine::Engine;
-use crate::making::{note_columns, note_name};
 use crate::sizes::{copy_place, counts_fit, ranked, slots_fit, tell_counts};
 use crate::taking::{take_to_mark, take_to_savepoint};
 use mg_base::{Disk, Memory, TxNo};
@@ -156,8 +155,6 @@ impl<D: Disk> Records for Engine<D> {
         tables_are_made::<D, Place>();
         creations_keep_apart::<D, Place>();
         counts_fit(self.core.damage, self.core.shortages);
-        note_name(name);
-        note_columns(shape.columns.as_slice());
         create_table(&mut self.core, t, name, shape)
     }
 

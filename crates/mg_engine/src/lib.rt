@@ -16,7 +16,6 @@ mod collecting;
 mod engine;
 mod keeping;
 mod keyed;
-mod making;
 mod noting;
 mod opening;
 mod page_writes;

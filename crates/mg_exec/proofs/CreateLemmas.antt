@@ -19,6 +19,7 @@ pub ready_to_create : {R P : Type 0} (m : Means R P) (old new : R) (u : ℕ) (re
     (table : NewTable) → Frames m old new u refusal → IsReadyToCreate m old table
     → IsReadyToCreate m new table
 ready_to_create m old new u refusal table frames ready = record {
+  named = ready.named;
   other = ready.other;
   lawful = ready.lawful;
   pages = (ready.pages.0, frames.sizes ready.pages.0 ∙ ready.pages.1, ready.pages.2);

@@ -7,6 +7,7 @@ use Rattle.std.proofs.lemmas.List.{length-map}
 use Rattle.std.proofs.lemmas.List.Elements.{All-map}
 use Rattle.std.proofs.lemmas.List.Sums.{sum_by-cons}
 use Rattle.std.proofs.lemmas.Option.{slice_get-map}
+use Rattle.mg_value.specs.Names.{IsName}
 use Rattle.mg_value.specs.declared.shape.Column.{Column}
 use Rattle.mg_value.specs.declared.shape.TheConstants.{MOST_COLUMNS}
 use Rattle.mg_value.specs.Rows.{row_len_of}
@@ -166,11 +167,13 @@ second_true true b is = refl
 second_true false b is = is
 
 new_shape : (columns : List Def) (size : ℕ) → Passes size columns
-    → All (λ (d : Def). IsOfLength d.kind) columns → IsNewShape (shape_of columns)
-new_shape columns size p lengths =
+    → All (λ (d : Def). IsOfLength d.kind) columns → All (λ (d : Def). IsName d.name) columns
+    → IsNewShape (shape_of columns)
+new_shape columns size p lengths names =
     let k = first_key 0 columns (some_key (count_by (λ d. d.key) columns) p.one_key) in
     record {
       most = omega (arith, length-map {A = Def} {B = Column} columns column_of, at_most MOST_COLUMNS (length columns) p.few);
+      named = All-map (λ (c : Column). IsName c.name) column_of columns names;
       apart = apart (map column_of columns) (ap has_twice (named_so columns) ∙ p.apart);
       key = subst IsKeyColumn (sym (key_column columns k)) (second_true k.d.not_null k.d.key k.is_key);
       lengths = All-map (λ (c : Column). IsOfLength c.kind) column_of columns lengths;
@@ -192,13 +195,14 @@ other_name name other is =
 
 -- a statement that is planned is ready to create its table
 pub planned_ready : {R P : Type 0} (m : Means R P) (r : R) (s : Plain) (name : List ℕ) (size : ℕ)
-    (table : NewTable) → CreatesTable s → same_name name catalog_name ≡ false → m.is_size r size ≡ true
-    → IsPlanned s name size table → IsReadyToCreate m r table
-planned_ready m r (Creation named columns) name size table creates other pages planned =
+    (table : NewTable) → CreatesTable s → IsName name → same_name name catalog_name ≡ false
+    → m.is_size r size ≡ true → IsPlanned s name size table → IsReadyToCreate m r table
+planned_ready m r (Creation named columns) name size table creates is_name other pages planned =
     let p = passes named columns size planned.passes in
     record {
+      named = subst IsName (sym planned.named) is_name;
       other = subst (λ (n : List ℕ). n ≢ catalog_name) (sym planned.named) (other_name name other);
-      lawful = subst IsNewShape (sym planned.shaped) (new_shape columns size p creates);
+      lawful = subst IsNewShape (sym planned.shaped) (new_shape columns size p creates planned.columns);
       pages = (size, pages, subst (FitsPage size) (sym planned.shaped) (fits_page columns size p));
     }
-planned_ready m r s name size table creates other pages planned = absurd creates
+planned_ready m r s name size table creates is_name other pages planned = absurd creates

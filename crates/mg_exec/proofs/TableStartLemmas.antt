@@ -3,6 +3,7 @@ use Rattle.std.proofs.Common.{◌≡◌, ℕ, ◌||◌, Bool, true, false, List,
 use Rattle.std.specs.Prelude.{IfOk, is_some}
 use Rattle.std.proofs.lemmas.Bool.{false≢true}
 use Rattle.mg_base.specs.declared.numbers.TxNo.{TxNo}
+use Rattle.mg_value.specs.Names.{IsName}
 use Rattle.mg_value.specs.declared.shape.Shape.{Shape}
 use Rattle.mg_statements.specs.Plain.{Plain}
 use Rattle.mg_plan.specs.declared.fault.PlanFault.{PlanFault}
@@ -117,12 +118,12 @@ tested {P = P} m old new o h t read_only s name size refusal result may other is
 
 pub phase_ready : {R P : Type 0} (m : Means R P) (old new : R) (t : ℕ) (s : Plain) (name : List ℕ)
     (size : ℕ) (result : Result (Phase P) StatementFault) (refusal : Option Refusal) → CreatesTable s
-    → same_name name catalog_name ≡ false → m.is_size old size ≡ true → Reads m old new refusal None
-    → PlansPhase s name size result → IfOk result (λ phase. IsReady m new t phase)
-phase_ready m old new t s name size (Ok (phases.Creating table)) refusal creates other pages reads planned =
-    planned_ready m new s name size table creates other (reads.keeps.sizes size ∙ pages) planned
-phase_ready m old new t s name size (Ok phase) refusal creates other pages reads planned = absurd planned
-phase_ready m old new t s name size (Err fault) refusal creates other pages reads planned = tt
+    → IsName name → same_name name catalog_name ≡ false → m.is_size old size ≡ true
+    → Reads m old new refusal None → PlansPhase s name size result → IfOk result (λ phase. IsReady m new t phase)
+phase_ready m old new t s name size (Ok (phases.Creating table)) refusal creates named other pages reads planned =
+    planned_ready m new s name size table creates named other (reads.keeps.sizes size ∙ pages) planned
+phase_ready m old new t s name size (Ok phase) refusal creates named other pages reads planned = absurd planned
+phase_ready m old new t s name size (Err fault) refusal creates named other pages reads planned = tt
 
 pub phase_frames : {R P : Type 0} (m : Means R P) (old new : R) (t : ℕ) (s : Plain) (name : List ℕ)
     (size : ℕ) (refusal : Refusal) (result : Result (Phase P) StatementFault)

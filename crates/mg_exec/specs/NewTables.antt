@@ -1,6 +1,7 @@
 -- What is tested of CREATE TABLE before its mark.
 use Rattle.std.specs.Prelude.{◌≡◌, ◌⊎◌, ℕ, ◌||◌, Bool, true, false, List, [], ◌∷◌, All, Option, Some, None, is_some, Result, Ok, Err}
 use Rattle.mg_base.specs.declared.numbers.TxNo.{TxNo}
+use Rattle.mg_value.specs.Names.{IsName}
 use Rattle.mg_value.specs.declared.shape.Shape.{Shape}
 use Rattle.mg_statements.specs.declared.statement.Def.{Def}
 use Rattle.mg_statements.specs.Plain.{Plain, Table}
@@ -68,11 +69,12 @@ pub data IsWhyNoTable (o : Opening) (h : Entries) (t : ℕ) (read_only : Bool) (
   -- memory is short
   short_of_memory : IsWhyNoTable o h t read_only s name size (Engine Memory)
 
--- this is the table that CREATE TABLE makes, whose binding nothing refuses
+-- this is the table that CREATE TABLE makes, whose binding nothing refuses; its columns have names
 pub record IsPlanned (s : Plain) (name : List ℕ) (size : ℕ) (table : NewTable) : Type 0 where
   pub passes : first_refusal [] 0 size s ≡ None
   pub named : table.name ≡ name
   pub shaped : table.shape ≡ shape_of (columns_defined s)
+  pub columns : All (λ (d : Def). IsName d.name) (columns_defined s)
 
 -- the table that CREATE TABLE makes, or the first refusal of its binding
 abbrev pub Plans : Plain → List ℕ → ℕ → Result NewTable PlanFault → Type 0

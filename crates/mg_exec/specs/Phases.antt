@@ -1,6 +1,7 @@
 -- Where a statement stands, and what the next call of it asks.
 use Rattle.std.specs.Prelude.{◌≡◌, ◌≢◌, ◌==◌, ℕ, ◌&&◌, Bool, true, false, List, All, Option, Some, None, Result, Err}
 use Rattle.std.specs.List.{list_any}
+use Rattle.mg_value.specs.Names.{IsName}
 use Rattle.mg_value.specs.declared.shape.Shape.{Shape}
 use Rattle.mg_expr.specs.declared.expr.Expr.{Expr}
 use Rattle.mg_statements.specs.declared.statement.Statement.{Statement}
@@ -104,6 +105,7 @@ pub record IsReadyToRead {R P : Type 0} (m : Means R P) (r : R) (t : ℕ) (readi
 
 -- the table has a name and a shape that a new one may have, and fits the keeper's pages
 pub record IsReadyToCreate {R P : Type 0} (m : Means R P) (r : R) (table : NewTable) : Type 0 where
+  pub named : IsName table.name
   pub other : table.name ≢ catalog_name
   pub lawful : IsNewShape table.shape
   pub pages : FitsPages m r table.shape

@@ -1,6 +1,7 @@
 //! CREATE TABLE.
 
-ghost use Rattle.std.specs.Prelude.{◌≡◌, ◌≤◌, IfOk, true};
+ghost use Rattle.std.specs.Prelude.{◌≡◌, ◌≤◌, All, IfOk, OnOk, true};
+ghost use Rattle.mg_value.specs.Names.{IsName};
 ghost use Rattle.mg_value.specs.declared.shape.TheConstants.{MOST_COLUMNS};
 ghost use Rattle.mg_model.specs.declared.opening.Opening.{Opening};
 ghost use Rattle.mg_model.specs.Catalog.{catalog_name};
@@ -32,7 +33,8 @@ use std::alloc::Global;
 
 /// Tells whether a name is the catalog's.
 fn is_catalog(name: &Name) -> bool
-    ensures { result ≡ same_name name.now catalog_name }
+    ensures is { result ≡ same_name name.now catalog_name }
+    ensures named { IsName name.now }
 {
     name.as_slice() == CATALOG
 }
@@ -41,7 +43,8 @@ fn is_catalog(name: &Name) -> bool
 fn shape_defined(alloc: Global, s: &Statement) -> Result<Shape, Memory>
     requires creates { CreatesTable (plain_of s.now) }
     requires few { count_defined (plain_of s.now) ≤ MOST_COLUMNS }
-    ensures { IfOk result (λ shape. shape ≡ shape_said (columns_defined (plain_of s.now))) }
+    ensures is { IfOk result (λ shape. shape ≡ shape_said (columns_defined (plain_of s.now))) }
+    ensures named { OnOk result (All (λ d. IsName d.name) (columns_defined (plain_of s.now))) }
 {
     match s {
         Statement::Table { columns, .. } => shape_of(alloc, columns),

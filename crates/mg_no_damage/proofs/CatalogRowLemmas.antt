@@ -1,8 +1,9 @@
 -- The rows that say a new table fit the catalog, and a page has room for each with an anchor beside it.
 use Rattle.std.proofs.Common.{◌≡◌, ◌≤◌, ◌+◌, ◌-◌, ◌*◌, ◌++◌, ◌∷◌, [], ℕ, List, length, length-append, ap, arith, refl, subst, sym}
-use Rattle.std.specs.Prelude.{codes, pos, replicate}
+use Rattle.std.specs.Prelude.{All, codes, pos, replicate}
 use Rattle.std.specs.Int.{to_le_bytes, w16}
 use Rattle.std.proofs.lemmas.List.{length-replicate}
+use Rattle.std.proofs.lemmas.List.Elements.{All-head, All-tail}
 use Rattle.mg_base.specs.declared.damage.Damaged.{Damaged}
 use Rattle.mg_catalog.specs.RowsSaid.{column_rows}
 use Rattle.mg_image.specs.Form.{Row}
@@ -23,7 +24,7 @@ use Rattle.mg_value.specs.declared.shape.Shape.{Shape}
 use Rattle.mg_value.specs.declared.value.Value.{Value}
 use Rattle.mg_value.specs.declared.value.Value.TheVariants.{Int, Null, Text}
 use Rattle.mg_version.specs.declared.cell.Version.{Version}
-use Rattle.mg_no_damage.specs.NewTables.{AreNamed, EachRow}
+use Rattle.mg_no_damage.specs.NewTables.{EachRow}
 
 -- ---- packed texts
 
@@ -115,16 +116,17 @@ column_key_len table place short = omega (
   length-append (codes "C") table,
 )
 
-columns_short : (name : List ℕ) (key place : ℕ) (columns : List Column) → length name ≤ 31 → AreNamed columns
-    → EachRow IsShortRow (column_rows name key place columns)
+columns_short : (name : List ℕ) (key place : ℕ) (columns : List Column) → length name ≤ 31
+    → All (λ (c : Column). IsName c.name) columns → EachRow IsShortRow (column_rows name key place columns)
 columns_short name key place [] short named = tt
 columns_short name key place (column ∷ columns) short named = (
   short_row (codes "C" ++ name ++ codes "." ++ two_digits place) (Text column.name) _ _ _ _
-      (column_key_len name place short) named.0.most,
-  columns_short name key (place + 1) columns short named.1,
+      (column_key_len name place short) (All-head (λ (c : Column). IsName c.name) column columns named).most,
+  columns_short name key (place + 1) columns short (All-tail (λ (c : Column). IsName c.name) column columns named),
 )
 
-pub rows_short : (name : List ℕ) (shape : Shape) (page : ℕ) → IsName name → AreNamed shape.columns
+pub rows_short : (name : List ℕ) (shape : Shape) (page : ℕ) → IsName name
+    → All (λ (c : Column). IsName c.name) shape.columns
     → EachRow IsShortRow (rows_at name shape page)
 rows_short name shape page named columns = (
   short_row (codes "T" ++ name) Null _ _ _ _

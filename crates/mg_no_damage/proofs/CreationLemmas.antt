@@ -20,7 +20,6 @@ use Rattle.mg_core.specs.declared.parts.Core.{Core}
 use Rattle.mg_no_damage.specs.CoreReads.{RecordsArePassed, RowsAreFound, ShowsTable}
 use Rattle.mg_engine_meaning.specs.KeepLaws.{catalog_shown}
 use Rattle.mg_engine_changes.specs.tables.MakingSteps.{MayHave}
-use Rattle.mg_engine_changes.specs.tables.MakingSteps as steps
 use Rattle.mg_engine_changes.specs.memory.Notes.{HasRead}
 use Rattle.mg_engine_changes.specs.rows.RefusalLaws.{begun_read}
 use Rattle.mg_engine_changes.specs.tables.RowsKnown.{rows_may}
@@ -75,7 +74,7 @@ use Rattle.mg_table_batch.specs.Filling.{rows_at}
 use Rattle.mg_table_batch.specs.Making.{FailsTable, FailsTry, at_try, no_page, not_at_once, wants_more}
 use Rattle.mg_table_making.specs.Creating.{FailsPut, no_catalog, no_keys, not_begun, not_free, not_kept, not_made, not_put, only_reads}
 use Rattle.mg_table_making.specs.Keys.{AreFreeKeys, FailsColumnKeys, FailsFree, FailsOwnKey, IsFreeKey, column_spoken, column_taken, column_unread, first_taken, free_more, free_none, keys_made, later_taken, own_hindered, own_seen, own_spoken, own_taken, own_unread}
-use Rattle.mg_no_damage.specs.NewTables.{AreNamed, EachRow, MayBePut, MayMake, TablesAreMade}
+use Rattle.mg_no_damage.specs.NewTables.{EachRow, MayBePut, MayMake, TablesAreMade}
 use Rattle.mg_ties.specs.Ties.{IsOneOf}
 use Rattle.mg_txlist.specs.TxList.{said}
 use Rattle.mg_value.specs.declared.shape.Column.{Column}
@@ -104,10 +103,6 @@ made_keyed : (catalog : Shape) (name : List ℕ) (shape : Shape) → catalog ≡
     → AreTableKeys name (keys_made catalog name shape)
 made_keyed catalog name shape is = subst (λ (s : Shape). AreTableKeys name (keys_made s name shape)) (sym is)
     (refl, columns_keyed name shape.key 0 shape.columns)
-
-named_columns : (columns : List Column) → steps.AreNamed columns → AreNamed columns
-named_columns [] named = tt
-named_columns (c ∷ cs) named = (named.0, named_columns cs named.1)
 
 each_row : (P : Row → Type 0) (rows : List Row) → ((row : Row) → IsOneOf rows row → P row) → EachRow P rows
 each_row P [] all = tt
@@ -362,7 +357,7 @@ module _ {D : Type 0} (m : Meaning D) (parts : MakingParts m) (old new : Core D)
       kept.of_pool old.catalog t.0 name shape
   may_make places name shape may = record {
     named = may.named;
-    columns = named_columns shape.columns may.columns;
+    columns = may.new.named;
     most = may.new.most;
     rows = λ page below. subst (λ (c : Table). EachRow (MayBePut old.store.geometry.size
         (left_state nobody (said old.list)) (shown old.store.dirty shows.image) kept.of_pool c t.0)

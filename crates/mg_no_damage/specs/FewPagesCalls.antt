@@ -111,7 +111,6 @@ PageWritesTakeNone D m = (old new : Core D) (result : Result (Option PageNo) Ref
 abbrev pub WritesTakeFew : (D : Type 0) → Meaning D → Type 0
 WritesTakeFew D m = (old new : Core D) (t : TxNo) (table : Table) (write : Write) (result : Result (Unit {0}) Refusal)
     → IsCore m old → given_to old.works t.0 table.name ≡ Some table → FitsShape table.shape write
-   
     → MatchResult result (λ _. WritesNoted m old new t table write) (FailsNoted m old new t table write)
     → RoomStands m old new (refusal_in result) pages_of_row
 

@@ -1,5 +1,5 @@
 -- A new table comes onto the pages without damage.
-use Rattle.std.specs.Prelude.{◌≡◌, ◌≤◌, ◌<◌, ◌^◌, ℕ, None, List, [], ◌∷◌, length}
+use Rattle.std.specs.Prelude.{◌≡◌, ◌≤◌, ◌<◌, ◌^◌, ℕ, None, List, [], ◌∷◌, length, All}
 use Rattle.mg_base.specs.Disk.{Meaning}
 use Rattle.mg_base.specs.Image.{Image}
 use Rattle.mg_base.specs.declared.damage.Damaged.{Damaged}
@@ -21,7 +21,6 @@ use Rattle.mg_table_batch.specs.Filling.{StoresRow, rows_at}
 use Rattle.mg_table_batch.specs.Making.{FailsTable}
 use Rattle.mg_image_overlays.specs.tables.Growing.{MayBeWritten}
 use Rattle.mg_value.specs.Names.{IsName}
-use Rattle.mg_value.specs.declared.shape.Column.{Column}
 use Rattle.mg_value.specs.declared.shape.Shape.{Shape}
 use Rattle.mg_value.specs.declared.shape.TheConstants.{MOST_COLUMNS}
 use Rattle.mg_version.specs.declared.cell.Version.{Version}
@@ -30,11 +29,6 @@ use Rattle.mg_version.specs.declared.cell.Version.{Version}
 abbrev pub EachRow : (Row → Type 0) → List Row → Type 0
 EachRow P [] = Unit {0}
 EachRow P (row ∷ rows) = P row × EachRow P rows
-
--- each of these columns has a name
-abbrev pub AreNamed : List Column → Type 0
-AreNamed [] = Unit {0}
-AreNamed (column ∷ columns) = IsName column.name × AreNamed columns
 
 -- each version of t that stores a row of the catalog may be written, wherever it is put
 abbrev pub MayBePut : ℕ → (ℕ → TxState) → Pages → Layout → Table → ℕ → Row → Type 0
@@ -46,7 +40,7 @@ MayBePut size state pages layout catalog t row = (at : RecId) (v : Version) → 
 pub record MayMake (size : ℕ) (state : ℕ → TxState) (pages : Pages) (layout : Layout) (catalog : Table) (t : ℕ)
     (name : List ℕ) (shape : Shape) : Type 0 where
   pub named : IsName name
-  pub columns : AreNamed shape.columns
+  pub columns : All (λ column. IsName column.name) shape.columns
   pub most : length shape.columns ≤ MOST_COLUMNS
   pub rows : (page : ℕ) → page < 2 ^ 32
       → EachRow (MayBePut size state pages layout catalog t) (rows_at name shape page)

@@ -1,6 +1,7 @@
 //! The shape of a new table.
 
-ghost use Rattle.std.specs.Prelude.{◌≡◌, ◌≤◌, ◌<◌, ◌^◌, IfOk, length, map, count_by};
+ghost use Rattle.std.specs.Prelude.{◌≡◌, ◌≤◌, ◌<◌, ◌^◌, All, IfOk, OnOk, length, map, count_by};
+ghost use Rattle.mg_value.specs.Names.{IsName};
 ghost use Rattle.mg_value.specs.declared.shape.TheConstants.{MOST_COLUMNS};
 ghost use Rattle.mg_value.specs.Rows.{row_len_of};
 ghost use Rattle.mg_plan.specs.Shapes.{column_of as column_defined, key_from, key_len as key_len_of, shape_of as shape_defined};
@@ -11,9 +12,13 @@ use mg_statements::Def;
 use mg_value::{Column, Columns, Shape, columns_len};
 use std::alloc::Global;
 
+/// The column that is defined so. Its name is known to be one once its bytes are asked for, which
+/// costs nothing.
 fn column_of(d: &Def) -> Column
-    ensures { result ≡ column_defined d.now }
+    ensures is { result ≡ column_defined d.now }
+    ensures named { IsName d.now.name }
 {
+    d.name.as_slice();
     Column {
         name: d.name,
         kind: d.kind,
@@ -23,7 +28,8 @@ fn column_of(d: &Def) -> Column
 }
 
 fn columns_of(alloc: Global, defs: &[Def]) -> Result<Vec<Column>, Memory>
-    ensures { IfOk result (λ columns. columns.items ≡ map column_defined defs.now) }
+    ensures are { IfOk result (λ columns. columns.items ≡ map column_defined defs.now) }
+    ensures named { OnOk result (All (λ d. IsName d.name) defs.now) }
 {
     let mut columns = Vec::new(alloc);
     for d in defs {
@@ -52,7 +58,8 @@ fn key_of(defs: &[Def]) -> u16
 /// `Memory` only.
 pub fn shape_of(alloc: Global, defs: &[Def]) -> Result<Shape, Memory>
     requires { length defs.now ≤ MOST_COLUMNS }
-    ensures { IfOk result (λ shape. shape ≡ shape_defined defs.now) }
+    ensures is { IfOk result (λ shape. shape ≡ shape_defined defs.now) }
+    ensures named { OnOk result (All (λ d. IsName d.name) defs.now) }
 {
     Ok(Shape {
         columns: Columns::new(columns_of(alloc, defs)?),

@@ -1,6 +1,7 @@
 -- Writes of rows, and new tables.
 use Rattle.std.specs.Prelude.{◌≡◌, ◌⊎◌, ℕ, ◌≤◌, ◌/◌, true, List, [], ◌∷◌, length, All, Option, Some, None, slice_get}
 use Rattle.mg_base.specs.declared.numbers.TxNo.{TxNo}
+use Rattle.mg_value.specs.Names.{IsName}
 use Rattle.mg_value.specs.declared.shape.Kind.{Kind}
 use Rattle.mg_value.specs.declared.shape.Kind.TheVariants as kinds
 use Rattle.mg_value.specs.declared.shape.Column.{Column}
@@ -64,6 +65,7 @@ IsKeyColumn (Some column) = column.not_null ≡ true
 -- Columns that a new table may have.
 pub record IsNewShape (shape : Shape) : Type 0 where
   pub most : length shape.columns ≤ MOST_COLUMNS
+  pub named : All (λ column. IsName column.name) shape.columns
   pub apart : AreApart shape.columns
   pub key : IsKeyColumn (slice_get shape.columns shape.key)
   pub lengths : All (λ column. IsOfLength column.kind) shape.columns

@@ -2,6 +2,7 @@
 
 ghost use Rattle.std.specs.Prelude.{◌≡◌, ◌≢◌, ◌<◌, ◌≤◌, ℕ, Option, Some, None, IfOk, OnOk, length};
 ghost use Rattle.std.specs.Option.{option_copied};
+ghost use Rattle.mg_value.specs.Names.{IsName};
 ghost use Rattle.mg_model.specs.declared.event.Event.{Event};
 ghost use Rattle.mg_model.specs.Changes.{KeyedRows};
 ghost use Rattle.mg_model.specs.Catalog.{catalog_name};
@@ -144,6 +145,7 @@ pub trait Records {
     /// Makes a table: the rows of the catalog that say it come one after another, that of the table
     /// first.
     fn create_table(&mut self, t: TxNo, name: &Name, shape: &Shape) -> Result<(), Refusal>
+        requires named { IsName name.now }
         requires other { name.now ≢ catalog_name }
         requires shape { IsNewShape shape.now }
         requires pages { FitsPages meaning self.old shape.now }

@@ -1,6 +1,6 @@
 -- A table is made: its batch takes the engine to the history with an entry for each row, and with all that came before
 -- the batch this is what a keeper of records owes.
-use Rattle.std.proofs.Common.{◌≡◌, ◌≢◌, ◌⊎◌, inl, inr, refl, sym, ap, ◌∙◌, subst, ◌≤◌, arith, ℕ, zero, suc, true, false, List, [], ◌∷◌, Option, None, Some}
+use Rattle.std.proofs.Common.{◌≡◌, ◌≢◌, ◌⊎◌, inl, inr, refl, sym, ap, ◌∙◌, subst, ◌≤◌, arith, ℕ, true, false, List, [], ◌∷◌, Option, None, Some}
 use Rattle.std.specs.Prelude.{All}
 use Rattle.std.proofs.lemmas.Bool.{eqb-true}
 use Rattle.mg_base.specs.Disk.{Meaning}
@@ -80,7 +80,7 @@ use Rattle.mg_engine_changes.specs.tables.MadeStands.{made_stands}
 use Rattle.mg_engine_changes.specs.tables.Silent.{IsSilentIn}
 use Rattle.mg_engine_changes.specs.tables.MakingStageLaws.{EachKey, all_come, all_silent, come_self, key_of_row, online, read_come, since}
 use Rattle.mg_engine_changes.specs.tables.MakingStages.{GoesOnRows, HasCome}
-use Rattle.mg_engine_changes.specs.tables.MakingSteps.{AreNamed, GivesTable, MayHave, TablesAreMade}
+use Rattle.mg_engine_changes.specs.tables.MakingSteps.{GivesTable, MayHave, TablesAreMade}
 use Rattle.mg_engine_changes.specs.memory.WorksMade.{made_asked, made_stay}
 
 -- ---- the batch
@@ -240,12 +240,6 @@ module _ {D : Type 0} (m : Meaning D) (known : KnownOfTables D m) (core : Core D
 
 -- ---- the call
 
--- each column has a name
-all_named : (columns : List Column) → AreNamed columns → All (λ (c : Column). IsName c.name) columns
-all_named [] each at d below = absurd (omega (arith, below))
-all_named (c ∷ cs) each zero d below = each.0
-all_named (c ∷ cs) each (suc at) d below = all_named cs each.1 at d (omega (arith, below))
-
 -- a row each of which comes
 inserts : {D P : Type 0} (m : Meaning D) (places : Places P) (new : Core D) (o : Opening) (t : TxNo) (rows : List Cells)
     (h : Entries) → AreLawful o t rows h → StandsFor m new o (with_rows t rows h)
@@ -319,7 +313,7 @@ module _ {D P : Type 0} (m : Meaning D) (known : KnownOfTables D m) (places : Pl
   all_goes : (o : Opening) (h : Entries) → StandsFor m old o h → GoesOnRows m mid now o h t name shape
   all_goes o h stands = goes_on m known mid come.pool come.geometry core.catalog come.up t active
       created.may.has_begun.may.work work_is created.may.has_begun.may.writes name shape may.named may.other may.new
-      (all_named shape.columns may.columns) fits_now new.store created.free.waits read.over table_made.makes o h (come.so.stands o h stands)
+      may.new.named fits_now new.store created.free.waits read.over table_made.makes o h (come.so.stands o h stands)
       (each_come keys (all_silent known.one known.speakers m known.counts_now old core t name shape created.free
       created.may o h stands))
     where

@@ -1,9 +1,8 @@
 -- A table that is made, or not, as a keeper of records owes it.
-use Rattle.std.specs.Prelude.{◌≢◌, ℕ, List, [], ◌∷◌, Option, None, Some}
+use Rattle.std.specs.Prelude.{◌≢◌, ℕ, List, Option, None, Some}
 use Rattle.mg_base.specs.Disk.{Meaning}
 use Rattle.mg_base.specs.declared.numbers.TxNo.{TxNo}
 use Rattle.mg_value.specs.Names.{IsName}
-use Rattle.mg_value.specs.declared.shape.Column.{Column}
 use Rattle.mg_value.specs.declared.shape.Shape.{Shape}
 use Rattle.mg_model.specs.Catalog.{catalog_name}
 use Rattle.mg_model.specs.declared.refusal.Refusal.{Refusal}
@@ -26,18 +25,12 @@ pub record GivesTable {D P : Type 0} (m : Meaning D) (places : Places P) (old ne
   pub crash : LeavesQuietly (means m places) old new
   pub sessions : SessionsStay (means m places) old new None None
 
--- each of these columns has a name
-abbrev pub AreNamed : List Column → Type 0
-AreNamed [] = Unit {0}
-AreNamed (column ∷ columns) = IsName column.name × AreNamed columns
-
 -- A name and a shape that a new table may have.
 pub record MayHave {D P : Type 0} (m : Meaning D) (places : Places P) (old : Core D) (name : List ℕ) (shape : Shape)
     : Type 0 where
   pub named : IsName name
   pub other : name ≢ catalog_name
   pub new : IsNewShape shape
-  pub columns : AreNamed shape.columns
   pub fits : FitsPages (means m places) old shape
 
 -- a table that is made

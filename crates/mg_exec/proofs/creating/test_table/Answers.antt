@@ -20,7 +20,7 @@ pub returns-then-is_catalog-clause-tests : goal.returns-then-is_catalog-clause-t
 returns-then-is_catalog-clause-tests g c = λ o h stands. (
   stands,
   taken (sym c.is_barred.ensures ∙ c.if-is_barred.false)
-      (named_catalog c.args.name.now _ c.is_catalog.result c.is_catalog.ensures c.if-is_catalog.true),
+      (named_catalog c.args.name.now _ c.is_catalog.result c.is_catalog.ensures.is c.if-is_catalog.true),
 )
 
 pub returns-then-is_catalog-clause-quiet : goal.returns-then-is_catalog-clause-quiet
@@ -44,15 +44,15 @@ pub returns-then-is_missing-clause-tests : goal.returns-then-is_missing-clause-t
 returns-then-is_missing-clause-tests g c = λ o h stands.
     tested g.R.Records.meaning c.args.r.now c.table.new.self o h c.args.t c.args.read_only
     (plain_of c.args.s.now) c.args.name.now c.args.size c.in-Err.refusal c.plan.result
-    (sym c.is_barred.ensures ∙ c.if-is_barred.false) (sym c.is_catalog.ensures ∙ c.if-is_catalog.false)
+    (sym c.is_barred.ensures ∙ c.if-is_barred.false) (sym c.is_catalog.ensures.is ∙ c.if-is_catalog.false)
     (sym c.is_missing.ensures ∙ c.if-is_missing.true) c.in-Err.ensures.table c.in-Err.ensures.reads
     c.plan.ensures stands
 
 pub returns-then-is_missing-clause-ready : goal.returns-then-is_missing-clause-ready
 returns-then-is_missing-clause-ready g c =
     phase_ready g.R.Records.meaning c.args.r.now c.table.new.self c.args.t.0 (plain_of c.args.s.now)
-    c.args.name.now c.args.size c.plan.result _ c.requires.creates
-    (sym c.is_catalog.ensures ∙ c.if-is_catalog.false) c.requires.pages c.in-Err.ensures.reads
+    c.args.name.now c.args.size c.plan.result _ c.requires.creates c.is_catalog.ensures.named
+    (sym c.is_catalog.ensures.is ∙ c.if-is_catalog.false) c.requires.pages c.in-Err.ensures.reads
     c.plan.ensures
 
 pub returns-then-is_missing-clause-frames : goal.returns-then-is_missing-clause-frames
@@ -71,7 +71,7 @@ pub returns-clause-tests : goal.returns-clause-tests
 returns-clause-tests g c = λ o h stands. (
   c.in-Err.ensures.reads.stays o h stands,
   not_read c.in-Err.refusal (sym c.is_barred.ensures ∙ c.if-is_barred.false)
-      (sym c.is_catalog.ensures ∙ c.if-is_catalog.false)
+      (sym c.is_catalog.ensures.is ∙ c.if-is_catalog.false)
       (refused_otherwise g.R.Records.meaning c.args.r.now o h c.args.t.0 c.args.name.now c.in-Err.refusal
       (sym c.is_missing.ensures ∙ c.if-is_missing.false) c.in-Err.ensures.table stands),
 )

@@ -1,8 +1,6 @@
-use Rattle.std.proofs.Common.{subst}
 use Rattle.mg_engine.specs.Places.{places}
 use Rattle.mg_records.specs.Keeping.{refusal_in}
 use Rattle.mg_engine.proofs.MakingLemmas.{makes_apart, makes_as, makes_room, makes_undamaged}
-use Rattle.mg_engine_changes.specs.tables.MakingSteps.{AreNamed}
 use Rattle.mg_engine.proofs.ToldLemmas.{told_as}
 use Rattle.mg_engine.proofs.RoomLemmas.{makes_table_room}
 use Rattle.mg_engine_meaning.specs.Meaning.{means}
@@ -14,24 +12,24 @@ invariant_of-self g c = record {
   lawful = c.create_table.ensures.core;
   apart = makes_apart g.D.Disk.meaning places c.self.inside.core c.args.self.now c.create_table.new.core
       c.self.view_is c.self.invariant c.counts_fit.ensures.0 c.counts_fit.ensures.1 c.args.t c.args.name.now
-      c.args.shape.now c.requires.other c.requires.shape c.requires.pages c.note_name.ensures
-      (subst AreNamed c.as_slice.ensures c.note_columns.ensures) c.creations_keep_apart.ensures.made c.creations_keep_apart.ensures.refused
+      c.args.shape.now c.requires.named c.requires.other c.requires.shape c.requires.pages
+      c.creations_keep_apart.ensures.made c.creations_keep_apart.ensures.refused
       c.create_table.result c.create_table.ensures.creates;
 }
 
 pub returns-clause-adds : goal.returns-clause-adds
 returns-clause-adds g c = let it = makes_as g.D.Disk.meaning places c.self.inside.core c.args.self.now c.create_table.new.core
     c.self.view_is c.self.invariant c.counts_fit.ensures.0 c.counts_fit.ensures.1 c.args.t c.args.name.now
-    c.args.shape.now c.requires.other c.requires.shape c.requires.pages c.note_name.ensures
-    (subst AreNamed c.as_slice.ensures c.note_columns.ensures) c.tables_are_made.ensures.made c.tables_are_made.ensures.refused c.create_table.result
+    c.args.shape.now c.requires.named c.requires.other c.requires.shape c.requires.pages
+    c.tables_are_made.ensures.made c.tables_are_made.ensures.refused c.create_table.result
     c.create_table.ensures.creates in
     makes_table_room g.D.Disk.meaning places c.args.self.now c.create_table.new.core c.args.t c.args.name.now c.args.shape.now (refusal_in c.create_table.result)
     c.requires.shape.most
     it.leaves.keeps
     (makes_room g.D.Disk.meaning places c.self.inside.core c.args.self.now
     c.create_table.new.core c.self.view_is c.self.invariant c.counts_fit.ensures.0 c.counts_fit.ensures.1 c.args.t
-    c.args.name.now c.args.shape.now c.requires.other c.requires.shape c.requires.pages c.note_name.ensures
-    (subst AreNamed c.as_slice.ensures c.note_columns.ensures) c.creations_take_few.ensures
+    c.args.name.now c.args.shape.now c.requires.named c.requires.other c.requires.shape c.requires.pages
+    c.creations_take_few.ensures
     c.create_table.result c.create_table.ensures.creates)
     it.makes
 
@@ -39,24 +37,24 @@ pub returns-clause-leaves : goal.returns-clause-leaves
 returns-clause-leaves g c = leaves_with (means g.D.Disk.meaning places) c.args.self.now c.create_table.new.core _ _ _
     ((makes_as g.D.Disk.meaning places c.self.inside.core c.args.self.now c.create_table.new.core
     c.self.view_is c.self.invariant c.counts_fit.ensures.0 c.counts_fit.ensures.1 c.args.t c.args.name.now
-    c.args.shape.now c.requires.other c.requires.shape c.requires.pages c.note_name.ensures
-    (subst AreNamed c.as_slice.ensures c.note_columns.ensures) c.tables_are_made.ensures.made c.tables_are_made.ensures.refused c.create_table.result
+    c.args.shape.now c.requires.named c.requires.other c.requires.shape c.requires.pages
+    c.tables_are_made.ensures.made c.tables_are_made.ensures.refused c.create_table.result
     c.create_table.ensures.creates).leaves)
 
 pub returns-clause-crash : goal.returns-clause-crash
 returns-clause-crash g c = quietly_with (means g.D.Disk.meaning places) c.args.self.now c.create_table.new.core
     ((makes_as g.D.Disk.meaning places c.self.inside.core c.args.self.now c.create_table.new.core
     c.self.view_is c.self.invariant c.counts_fit.ensures.0 c.counts_fit.ensures.1 c.args.t c.args.name.now
-    c.args.shape.now c.requires.other c.requires.shape c.requires.pages c.note_name.ensures
-    (subst AreNamed c.as_slice.ensures c.note_columns.ensures) c.tables_are_made.ensures.made c.tables_are_made.ensures.refused c.create_table.result
+    c.args.shape.now c.requires.named c.requires.other c.requires.shape c.requires.pages
+    c.tables_are_made.ensures.made c.tables_are_made.ensures.refused c.create_table.result
     c.create_table.ensures.creates).crash)
 
 pub returns-clause-sessions : goal.returns-clause-sessions
 returns-clause-sessions g c = sessions_with (means g.D.Disk.meaning places) c.args.self.now c.create_table.new.core _ _
     ((makes_as g.D.Disk.meaning places c.self.inside.core c.args.self.now c.create_table.new.core
     c.self.view_is c.self.invariant c.counts_fit.ensures.0 c.counts_fit.ensures.1 c.args.t c.args.name.now
-    c.args.shape.now c.requires.other c.requires.shape c.requires.pages c.note_name.ensures
-    (subst AreNamed c.as_slice.ensures c.note_columns.ensures) c.tables_are_made.ensures.made c.tables_are_made.ensures.refused c.create_table.result
+    c.args.shape.now c.requires.named c.requires.other c.requires.shape c.requires.pages
+    c.tables_are_made.ensures.made c.tables_are_made.ensures.refused c.create_table.result
     c.create_table.ensures.creates).sessions)
 
 pub returns-clause-told : goal.returns-clause-told
@@ -69,14 +67,14 @@ pub returns-clause-undamaged : goal.returns-clause-undamaged
 returns-clause-undamaged g c = undamaged_with (means g.D.Disk.meaning places) c.args.self.now c.create_table.new.core
     (makes_undamaged g.D.Disk.meaning places c.self.inside.core c.args.self.now
     c.create_table.new.core c.self.view_is c.self.invariant c.counts_fit.ensures.0 c.counts_fit.ensures.1 c.args.t
-    c.args.name.now c.args.shape.now c.requires.other c.requires.shape c.requires.pages c.note_name.ensures
-    (subst AreNamed c.as_slice.ensures c.note_columns.ensures) c.creations_meet_no_damage.ensures
+    c.args.name.now c.args.shape.now c.requires.named c.requires.other c.requires.shape c.requires.pages
+    c.creations_meet_no_damage.ensures
     c.create_table.result c.create_table.ensures.creates)
 
 pub returns-clause-room : goal.returns-clause-room
 returns-clause-room g c = room_with (means g.D.Disk.meaning places) c.args.self.now c.create_table.new.core _ _
     (makes_room g.D.Disk.meaning places c.self.inside.core c.args.self.now
     c.create_table.new.core c.self.view_is c.self.invariant c.counts_fit.ensures.0 c.counts_fit.ensures.1 c.args.t
-    c.args.name.now c.args.shape.now c.requires.other c.requires.shape c.requires.pages c.note_name.ensures
-    (subst AreNamed c.as_slice.ensures c.note_columns.ensures) c.creations_take_few.ensures
+    c.args.name.now c.args.shape.now c.requires.named c.requires.other c.requires.shape c.requires.pages
+    c.creations_take_few.ensures
     c.create_table.result c.create_table.ensures.creates)
