@@ -1,5 +1,5 @@
 -- What a collection is refused by.
-use Rattle.std.specs.Prelude.{◌≡◌, ℕ, true, Some, refl}
+use Rattle.std.specs.Prelude.{◌≡◌, true, Some, refl}
 use Rattle.mg_model.specs.declared.answer.Answer.TheVariants.{No}
 use Rattle.mg_model.specs.declared.refusal.Refusal.{Refusal}
 use Rattle.mg_model.specs.declared.refusal.Refusal.TheVariants.{DatabaseFull}

@@ -1,5 +1,5 @@
 -- What an engine leaves of a record that it collects is what remains of it by the history that it stands for.
-use Rattle.std.proofs.Common.{◌≡◌, ◌∙◌, refl, sym, ap, subst, ◌&&◌, ◌||◌, ℕ, Bool, true, false, not, List, [], ◌∷◌, length, map, None, Option, Some, is_some, IsSome, inl, inr}
+use Rattle.std.proofs.Common.{◌≡◌, ◌∙◌, refl, sym, ap, subst, ◌&&◌, ◌||◌, ℕ, Bool, true, false, not, List, [], ◌∷◌, length, map, None, Option, Some, is_some, inl, inr}
 use Rattle.std.specs.List.{list_any}
 use Rattle.std.proofs.Math.Path.{fun_ext}
 use Rattle.mg_base.specs.Disk.{MayLeave, Meaning}
@@ -22,13 +22,11 @@ use Rattle.mg_engine_meaning.specs.Standings.{ShowsIt, StandsFor, standing_of}
 use Rattle.mg_engine_meaning.specs.StepLaws.{shows_of}
 use Rattle.mg_engine_steps.specs.standing.Based.{AreBased, IsBased}
 use Rattle.mg_engine_steps.specs.standing.Standing.{ShowsHistory}
-use Rattle.mg_heap.specs.Listed.{IsRecordOf}
 use Rattle.mg_heap.specs.Stands.{TablesAreWalked}
 use Rattle.mg_image.specs.Form.{Pages, packed_form}
 use Rattle.mg_image.specs.ReadingLaws.{Opens, chain_opens}
 use Rattle.mg_image.specs.RecordRules.{Each, EachBack}
-use Rattle.mg_image.specs.Records.{Cells, Chain, cells_of, newest_of, writer}
-use Rattle.mg_image.specs.Sound.{facts_by}
+use Rattle.mg_image.specs.Records.{Cells, Chain, cells_of, writer}
 use Rattle.mg_image.specs.Tables.{stands_of, table_at}
 use Rattle.mg_image.specs.declared.entry.Entry.{Entry}
 use Rattle.mg_lasting.specs.PoolLaws.{HoldsOne}
@@ -41,20 +39,18 @@ use Rattle.mg_model.specs.declared.table.Table.{Table}
 use Rattle.mg_overlays.specs.Overlays.{left_by, left_state}
 use Rattle.mg_pool.specs.Dirty.{DirtyPages}
 use Rattle.mg_pool.specs.Pool.{shown}
-use Rattle.mg_pool.specs.declared.pool.Pool.{Pool}
 use Rattle.mg_seek.specs.Speaking.{is_erased_for_all}
-use Rattle.mg_snap.specs.Live.{Entered, State, all_see, base_among, base_sees, misses, needed, sees, wants_older}
+use Rattle.mg_snap.specs.Live.{Entered, State, all_see, base_sees, misses, needed, sees, wants_older}
 use Rattle.mg_snap.specs.LiveLaws.{all_see_it, unneeded}
 use Rattle.mg_space.specs.View.{KeepsStore, Tells}
 use Rattle.mg_space.specs.ViewLaws.{tells_on}
-use Rattle.mg_space.specs.declared.links.FireLinks.{FireLinks}
-use Rattle.mg_tending.specs.Collecting.{Collects, IsErased, IsLeft, IsMissed, IsSeenByEach, IsToldGone, Kept, LeavesOf, LeftBehind, LeftOfAll, LeftOfCommitted, Remains, UnlessErased, committed_newest, dead_newest, erased, is_missed, newest_committed, no_committed, no_more, no_version, none_behind, not_erased, not_missed, open_newest, several}
+use Rattle.mg_tending.specs.Collecting.{Collects, IsErased, IsLeft, IsMissed, IsSeenByEach, IsToldGone, Kept, LeavesOf, LeftBehind, LeftOfAll, LeftOfCommitted, Remains, UnlessErased, committed_newest, dead_newest, erased, is_missed, newest_committed, no_committed, no_more, none_behind, not_erased, not_missed, open_newest, several}
 use Rattle.mg_txlist.specs.TxList.{said}
 use Rattle.mg_version.specs.declared.cell.Cell.TheVariants as cells
 use Rattle.mg_version.specs.declared.cell.Link.{Link}
 use Rattle.mg_version.specs.declared.cell.Version.{Version}
 use Rattle.mg_works.specs.Works.{given_to}
-use Rattle.mg_engine_collecting.specs.PlaceNamed.{given_works, record_there}
+use Rattle.mg_engine_collecting.specs.PlaceNamed.{record_there}
 use Rattle.mg_engine_collecting.specs.RunStays.{steps_on}
 use Rattle.mg_engine_collecting.specs.StepKeeps.{both_of, committed_is, dead_is}
 use Rattle.mg_engine_collecting.specs.Versions.{HasKept, collecting, kept_of}

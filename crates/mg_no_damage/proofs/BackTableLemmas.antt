@@ -420,18 +420,21 @@ marks_over_meet_no_damage m known apart go_on law missing rows_law speakers plac
     over_fails m known apart go_on law missing rows_law speakers places old new t core LastMark refusal fails o h stands told
 
 pub savepoints_over_meet_no_damage : {D P : Type 0} (m : Meaning D) → KnownOfBacks D P m → GivenApart
-    → RowsGoOn D FireLinks m → KeysMeetNoDamage D m → KeysMissNoPage D m → RowsMeetNoDamage D m → SavepointsOverMeetNoDamage D m
-savepoints_over_meet_no_damage m known apart go_on law missing rows_law old new t name (Ok true) core gone o h stands told =
-    over_takes m known apart go_on law missing rows_law old new t core (SavepointNamed name) gone.1
-savepoints_over_meet_no_damage {D} m known apart go_on law missing rows_law old new t name (Ok false) core gone o h stands
-    told = ap (λ (c : Core D). c.damage) gone.2
-savepoints_over_meet_no_damage m known apart go_on law missing rows_law old new t name (Err refusal) core fails o h stands
-    told = over_fails m known apart go_on law missing rows_law old new t core (SavepointNamed name) refusal fails o h stands
-    told
+    → RowsGoOn D FireLinks m → KeysMeetNoDamage D m → KeysMissNoPage D m → RowsMeetNoDamage D m → SpeakersOfReadings
+    → PlacesOfReadings → SavepointsOverMeetNoDamage D m
+savepoints_over_meet_no_damage m known apart go_on law missing rows_law speakers places old new t name (Ok true) core gone o
+    h stands told =
+    over_takes m known apart go_on law missing rows_law speakers places old new t core (SavepointNamed name) gone.1
+savepoints_over_meet_no_damage {D} m known apart go_on law missing rows_law speakers places old new t name (Ok false) core
+    gone o h stands told = ap (λ (c : Core D). c.damage) gone.2
+savepoints_over_meet_no_damage m known apart go_on law missing rows_law speakers places old new t name (Err refusal) core
+    fails o h stands told = over_fails m known apart go_on law missing rows_law speakers places old new t core
+    (SavepointNamed name) refusal fails o h stands told
 
 -- the trees stand at each change of another table than the catalog
 pub others_stand_back : {D P : Type 0} (m : Meaning D) → KnownOfBacks D P m → GivenApart → RowsGoOn D FireLinks m
-    → KeysMeetNoDamage D m → KeysMissNoPage D m → RowsMeetNoDamage D m → KeysEnterMidway D m → OthersStandBack D m
-others_stand_back m known apart go_on law missing rows_law enter old begun t point undo core has_begun reaches o h stands
-    given end all = others_stand m known apart go_on law missing rows_law old old t core point begun undo has_begun
-    reaches old refusals.Memory o h stands enter given end all
+    → KeysMeetNoDamage D m → KeysMissNoPage D m → RowsMeetNoDamage D m → SpeakersOfReadings → PlacesOfReadings
+    → KeysEnterMidway D m → OthersStandBack D m
+others_stand_back m known apart go_on law missing rows_law speakers places enter old begun t point undo core has_begun
+    reaches o h stands given end all = others_stand m known apart go_on law missing rows_law speakers places old old t core
+    point begun undo has_begun reaches old refusals.Memory o h stands enter given end all

@@ -46,7 +46,6 @@ use Rattle.mg_records.specs.declared.write.Write.{Write}
 use Rattle.mg_row_writes.specs.Befores.{IsBefore}
 use Rattle.mg_row_writes.specs.Changing.{FailsFirst, FailsOver, FailsPlace, FailsReplacing, FailsTakingOut, TakesNewestOut, TakesPlace}
 use Rattle.mg_row_writes.specs.Finding.{IsInWay}
-use Rattle.mg_row_writes.specs.Bare.{BareFails, no_first_there, no_place_there, not_out, not_over}
 use Rattle.mg_row_writes.specs.Storing.{MayBeStored, row_stored, written_at}
 use Rattle.mg_row_writes.specs.declared.before.Before.{Before}
 use Rattle.mg_row_writes.specs.declared.before.Way.TheVariants as ways

@@ -15,12 +15,10 @@ use Rattle.mg_pool.specs.declared.fault.PoolFault.TheVariants as faults
 use Rattle.mg_pool.specs.declared.pool.Pool.{Pool}
 use Rattle.mg_records.specs.Writing.{FitsShape}
 use Rattle.mg_records.specs.declared.write.Write.{Write}
-use Rattle.mg_row_writes.specs.Bare.{BareFails, IsBare, no_first_there, no_place_there, not_out, not_over}
-use Rattle.mg_row_writes.specs.BareLaws.{bare_fails, bare_keys}
 use Rattle.mg_records.specs.declared.write.Write.TheVariants as writes
 use Rattle.mg_row_writes.specs.Laying.{FailsEntering, FailsLay, FailsThen, no_first, no_place, not_cleared, not_entered, not_pushed, not_put_in}
 use Rattle.mg_row_writes.specs.Changing.{FailsFirst, FailsOver, FailsReplacing}
-use Rattle.mg_row_writes.specs.Storing.{row_stored, written_at}
+use Rattle.mg_row_writes.specs.Storing.{written_at}
 use Rattle.mg_row_writes.specs.declared.before.Before.{Before}
 use Rattle.mg_row_writes.specs.declared.before.Way.{Way}
 use Rattle.mg_row_writes.specs.declared.before.Way.TheVariants as ways

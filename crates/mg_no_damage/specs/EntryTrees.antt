@@ -33,7 +33,6 @@ use Rattle.mg_pool.specs.declared.pool.Pool.{Pool}
 use Rattle.mg_records.specs.Writing.{FitsShape}
 use Rattle.mg_records.specs.declared.write.Write.{Write}
 use Rattle.mg_row_writes.specs.Changing.{TakesNewestOut, TakesPlace}
-use Rattle.mg_row_writes.specs.Storing.{row_stored}
 use Rattle.mg_row_writes.specs.declared.before.Before.{Before}
 use Rattle.mg_row_writes.specs.declared.before.Way.{Way}
 use Rattle.mg_row_writes.specs.declared.before.Way.TheVariants as ways

@@ -12,7 +12,6 @@ use Rattle.mg_model.specs.declared.table.Table.{Table}
 use Rattle.mg_records.specs.Keeping.{refusal_in}
 use Rattle.mg_records.specs.Room.{pages_of_begin, pages_of_row, pages_of_table}
 use Rattle.mg_records.specs.Writing.{FitsShape}
-use Rattle.mg_row_writes.specs.Storing.{row_stored}
 use Rattle.mg_records.specs.declared.found.Found.{Found}
 use Rattle.mg_records.specs.declared.write.Write.{Write}
 use Rattle.mg_value.specs.declared.shape.Shape.{Shape}

@@ -17,7 +17,6 @@ use Rattle.mg_model.specs.declared.table.Table.{Table}
 use Rattle.mg_records.specs.Room.{most_indexes, pages_of_row}
 use Rattle.mg_records.specs.Writing.{FitsShape}
 use Rattle.mg_records.specs.declared.write.Write.{Write}
-use Rattle.mg_row_writes.specs.Storing.{row_stored}
 use Rattle.mg_taking_back.specs.Noting.{FailsNoted, WritesNoted, noted_fails, noted_memory, noted_not, with_noted}
 use Rattle.mg_works.specs.Works.{given_to}
 use Rattle.mg_no_damage.specs.CoreSpending.{TakesPages}

@@ -75,6 +75,7 @@ pub fn trees_stand_back<D: Disk>()
     ensures others { OthersStandBack D D.meaning }
 {
     backs_are_known::<D, u32>();
+    records_are_those_of_every_reading();
     rows_are_given();
     rows_go_on::<D, FireLinks>();
     keys_meet_no_damage::<D>();

@@ -30,20 +30,13 @@ use Rattle.mg_pool.specs.Pool.{shown}
 use Rattle.mg_pool.specs.declared.pool.Pool.{Pool}
 use Rattle.mg_pool_overlays.specs.Needs.{Asked, Sessions}
 use Rattle.mg_records.specs.declared.write.Write.TheVariants as writes
-use Rattle.mg_batches.specs.Batches.{ChangesOwn}
-use Rattle.mg_seek.specs.Speaking.{IsSpeaker}
-use Rattle.mg_seek.specs.Versions.{IsFirst, wants}
-use Rattle.mg_seek.specs.declared.walk.Placed.{Placed}
-use Rattle.mg_seek.specs.declared.whose.Wanted.TheVariants.{Any}
-use Rattle.mg_row_writes.specs.Storing.{alone_at, row_stored}
+use Rattle.mg_row_writes.specs.Storing.{row_stored}
 use Rattle.mg_space.specs.declared.links.FireLinks.{FireLinks}
 use Rattle.mg_taking_back.specs.Formers.{MayComeBack}
 use Rattle.mg_taking_back.specs.Keys.{IsOwnAt, PutsBack, TakesKey, former}
 use Rattle.mg_undo.specs.Machine.{was_in}
 use Rattle.mg_undo.specs.declared.changes.Was.{Was}
 use Rattle.mg_undo.specs.declared.changes.Was.TheVariants as wases
-use Rattle.mg_value.specs.declared.shape.Shape.{Shape}
-use Rattle.mg_value.specs.declared.shape.Column.{Column}
 use Rattle.mg_value.specs.declared.value.Value.{Value}
 use Rattle.mg_works.specs.Works.{Working, written_to}
 use Rattle.std.proofs.lemmas.Bool.{false≢true}
@@ -260,7 +253,7 @@ module _ {D : Type 0} (m : Meaning D) (holds : HoldsOne D m) (one : RowsAreOne p
         version = puts.version;
         stored = row_stored table (writes.Insert row);
         replaces = puts.enters.lays;
-        codes = subst (λ (k : Value). CodesRow packed_coding table puts.version row t k (Some row)) may.0
+        codes = subst (λ (k : Value). CodesRow packed_coding table puts.version row t k (Some row)) may
             (coded table table t (writes.Insert row) puts.version same_table no_catalog first_columns puts.fits
             puts.stored);
         entries = λ live. all.found;

@@ -11,7 +11,7 @@ use Rattle.mg_engine_meaning.specs.LoneRowsLaws.{lone_behind, lone_by, lone_on}
 use Rattle.mg_engine_steps.specs.tables_back.CatalogPages.{catalog_page_named}
 use Rattle.mg_image.specs.Form.{Pages, packed_coding, packed_form}
 use Rattle.mg_image.specs.RecordRules.{Facts, table_in}
-use Rattle.mg_image.specs.Records.{Reading, cells_of, key_of, record_key}
+use Rattle.mg_image.specs.Records.{Reading, cells_of, record_key}
 use Rattle.mg_image.specs.Sound.{IsSoundBy, facts_by}
 use Rattle.mg_image.specs.Tables.{Layout, Stand, has, stands_of, table_at}
 use Rattle.mg_image.specs.declared.entry.Entry.{Entry}

@@ -39,7 +39,6 @@ use Rattle.mg_engine_steps.specs.writes.Knowing.{CodesRow, EntersWrite, HasEntri
 use Rattle.mg_engine_steps.specs.commits.Unasked.{UnaskingLasts}
 use Rattle.mg_grown_catalogs.specs.Grown.{makes_alone}
 use Rattle.mg_image.specs.Form.{Pages, packed_coding, packed_form}
-use Rattle.mg_image.specs.Indexes.{IsFoundIn}
 use Rattle.mg_image.specs.Tables.{Stand, stands_of, table_at}
 use Rattle.mg_image_overlays.specs.tables.TableOwners.{IsOneOf}
 use Rattle.mg_image_overlays.specs.tables.Growing.{IsTableOf}

@@ -38,8 +38,6 @@ use Rattle.mg_pool.specs.declared.pool.Pool.{Pool}
 use Rattle.mg_row_writes.specs.Befores.{IsBefore}
 use Rattle.mg_row_writes.specs.Finding.{IsInWay}
 use Rattle.mg_row_writes.specs.Changing.{TakesNewestOut, TakesPlace}
-use Rattle.mg_row_writes.specs.Bare.{BareLays, BareNew, BareOverDead, IsBare, bare_in}
-use Rattle.mg_row_writes.specs.BareLaws.{bare_lays, bare_there}
 use Rattle.mg_row_writes.specs.Laying.{EntersRow, Lays, LaysNew, LaysOverDead, laid_in}
 use Rattle.mg_row_writes.specs.Storing.{row_stored, written_at}
 use Rattle.mg_row_writes.specs.declared.before.Before.{Before}

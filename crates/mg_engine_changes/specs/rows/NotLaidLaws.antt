@@ -38,7 +38,7 @@ use Rattle.mg_engine_changes.specs.entries.EnteredAllLaws.{no_more}
 use Rattle.mg_base.specs.declared.numbers.RecId.{RecId}
 use Rattle.mg_records.specs.declared.write.Write.TheVariants as writes
 use Rattle.mg_row_writes.specs.Changing.{FailsFirst, FailsOver, FailsReplacing}
-use Rattle.mg_row_writes.specs.Laying.{FailsEntering, FailsLay, FailsThen, no_first, no_place, not_cleared, not_entered, not_pushed, not_put_in}
+use Rattle.mg_row_writes.specs.Laying.{EntersRow, FailsEntering, FailsLay, FailsThen, no_first, no_place, not_cleared, not_entered, not_pushed, not_put_in}
 use Rattle.mg_row_writes.specs.Storing.{written_at}
 use Rattle.mg_row_writes.specs.declared.before.Way.{Way}
 use Rattle.mg_row_writes.specs.declared.before.Way.TheVariants as ways
