@@ -1,5 +1,5 @@
 -- What an engine leaves of a record that it collects is what remains of it by the history that it stands for.
-use Rattle.std.proofs.Common.{◌≡◌, ◌∙◌, refl, sym, ap, subst, ◌&&◌, ◌||◌, ℕ, Bool, true, false, not, List, [], ◌∷◌, length, map, None, Option, Some, is_some, inl, inr}
+use Rattle.std.proofs.Common.{◌≡◌, ◌∙◌, refl, sym, ap, subst, ◌&&◌, ◌||◌, ℕ, Bool, true, false, arith, not, List, [], ◌∷◌, length, map, None, Option, Some, is_some, inl, inr}
 use Rattle.std.specs.List.{list_any}
 use Rattle.std.proofs.Math.Path.{fun_ext}
 use Rattle.mg_base.specs.Disk.{MayLeave, Meaning}

@@ -1,4 +1,4 @@
-use Rattle.std.proofs.Common.{None, Some, refl}
+use Rattle.std.proofs.Common.{None, Some, false, refl}
 use Rattle.mg_transcript.specs.OutsideLaws.{refused_outside}
 use Rattle.mg_courses.specs.OutsideLaws.{outer_unpaged}
 use Rattle.mg_shorthand.proofs.GoingLemmas.{reads_one, reads_then, spares_read, spares_then}
