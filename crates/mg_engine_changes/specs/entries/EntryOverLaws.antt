@@ -72,7 +72,7 @@ module _ {D : Type 0} (m : Meaning D) (old : Core D) (core : IsCore m old) (a b 
         (standing_of (record old { store = b }) it.over.stands.numbers it.over.stands.tables) off) (sym up) shows_now;
   }
 
-  leaves_now : LeavesSince m old.store.disk b.disk (HoldsAcknowledged packed_form old.store.dirty.size o h)
+  pub leaves_now : LeavesSince m old.store.disk b.disk (HoldsAcknowledged packed_form old.store.dirty.size o h)
   leaves_now = record {
     since = joined m old.store.disk a.disk b.disk (HoldsAcknowledged packed_form old.store.dirty.size o h)
         it.over.leaves.since since_a.since;
@@ -89,7 +89,7 @@ module _ {D : Type 0} (m : Meaning D) (old : Core D) (core : IsCore m old) (a b 
   one_image : (k : Image) → m.held a.disk ≡ Some k → k ≡ it.shows.image
   one_image k held = let both : Some k ≡ Some it.shows.image = sym held ∙ it.shows.held in cc
 
-  walks_now : (i : Image) → m.held old.store.disk ≡ Some i → WalkInto m old.store.geometry.size (bare_standing old)
+  pub walks_now : (i : Image) → m.held old.store.disk ≡ Some i → WalkInto m old.store.geometry.size (bare_standing old)
       (shown old.store.dirty i) b (bare_standing old) t
   walks_now i held u ne also x from rows next =
       let (k, held_k, then_) = it.over.walks i held u ne also x from rows next in (

@@ -150,14 +150,14 @@ module _ (speakers : SpeakersAreTold) (obstacles : ObstaclesAtKeys) (rows : Rows
   abbrev mid : Core D
   mid = record old { store = read.store }
 
-  mid_stands : StandsFor m (record old { store = read.store }) o h
+  pub mid_stands : StandsFor m (record old { store = read.store }) o h
   mid_stands = reads_stand m places begin last old read.store since.keeps old.damage old.shortages o h
       stands
 
   mid_online : read.store.offline ≡ None
   mid_online = since.keeps.offline ∙ online
 
-  mid_shows : ShowsIt m (record old { store = read.store }) o h
+  pub mid_shows : ShowsIt m (record old { store = read.store }) o h
       (standing_of (record old { store = read.store }) mid_stands.numbers mid_stands.tables)
   mid_shows = shows_of m (record old { store = read.store }) o h mid_stands mid_online
 
@@ -205,7 +205,7 @@ module _ (speakers : SpeakersAreTold) (obstacles : ObstaclesAtKeys) (rows : Rows
   work_is = sym (ap (λ (c : Core D). work_of c.works t.0) begun_since.same) ∙ begun.may.its
 
   -- walks are as they were where pages were only read
-  walk_mid : (i : Image) → m.held old.store.disk ≡ Some i → (u : ℕ) (x : Table) (from : Option WalkPlace)
+  pub walk_mid : (i : Image) → m.held old.store.disk ≡ Some i → (u : ℕ) (x : Table) (from : Option WalkPlace)
       (rows_ : KeyedRows)
       → AreToCome old.store.geometry.size (bare_standing old) (shown old.store.dirty i) u x from rows_
       → AreToCome read.store.geometry.size (bare_standing old)
@@ -225,7 +225,7 @@ module _ (speakers : SpeakersAreTold) (obstacles : ObstaclesAtKeys) (rows : Rows
   first_shows : ShowsIt m old o h (standing_of old stands.numbers stands.tables)
   first_shows = shows_of m old o h stands online
 
-  mid_leaves : LeavesSince m old.store.disk read.store.disk
+  pub mid_leaves : LeavesSince m old.store.disk read.store.disk
       (HoldsAcknowledged packed_form old.store.dirty.size o h)
   mid_leaves = (last o h old.store read.store (asked_in old.works) (sessions_in old.works)
       (begin o first_shows.stands.opening) first_shows.stands.legal stands.tells since.keeps first_shows.lasts).1

@@ -159,10 +159,10 @@ module _ (retract : RetractTakesKeepBack) {D P : Type 0} (m : Meaning D) (places
       → ((o : Opening) (h : Entries) → StandsFor m old o h → StaysOver m old first o h t.0) → (rec : RecId) (w : Write)
       → EntersRow m first b table rec w → (o : Opening) (h : Entries) → StandsFor m old o h
       → StaysOver m old b o h t.0
-  row_over first b pool up geometry over rec (writes.Insert row) laid = entered_over first b pool up geometry over
-      table.indexes [] (sym (no_more table.indexes)) rec row laid
-  row_over first b pool up geometry over rec (writes.Change key row) laid = entered_over first b pool up geometry over
-      table.indexes [] (sym (no_more table.indexes)) rec row laid
+  row_over first b pool up geometry over rec (writes.Insert row) laid o h stands = entered_over first b pool up geometry
+      over table.indexes [] (sym (no_more table.indexes)) rec row laid o h stands
+  row_over first b pool up geometry over rec (writes.Change key row) laid o h stands = entered_over first b pool up geometry
+      over table.indexes [] (sym (no_more table.indexes)) rec row laid o h stands
   row_over first b pool up geometry over rec (writes.Erase key) same o h stands =
       subst (λ (s : Pool D FireLinks). StaysOver m old s o h t.0) (sym same) (over o h stands)
 

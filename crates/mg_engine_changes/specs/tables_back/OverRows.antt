@@ -99,6 +99,7 @@ pub stops_parts : {D : Type 0} (m : Meaning D) (t : ℕ) (refusal : Refusal) (ke
     (fails : FailsRows m t refusal keys mid stopped) → (more : List Value)
     × (keys ≡ (stops_among m t refusal keys mid stopped fails).done
     ++ ((stops_among m t refusal keys mid stopped fails).key ∷ more))
+unfolding stops_among
 stops_parts m t refusal all mid stopped (row_stands key keys begun end fails) = (keys, refl)
 stops_parts m t refusal all mid stopped (later_row key keys begun next end takes more) =
     let (others, parts) = stops_parts m t refusal keys next end more in
