@@ -258,7 +258,7 @@ module _ {R P Run : Type 0} (m : Means R P) (runs : RunMeans R Run) (lasts : Hol
 pub run_ready : {R P Run : Type 0} (m : Means R P) (runs : RunMeans R Run) (r : R) (t : TxNo) (work : Work Run) (run : Run)
     (stepped : Stepped) → work ≡ works.Statement run → IsWorkReadyIf m runs r t work stepped
     → IsReadyIf runs r t run stepped
-run_ready m runs r t work run stepped is ready = by stepped
+run_ready {Run = Run} m runs r t work run stepped is ready = by stepped
     (subst (λ (w : Work Run). IsWorkReadyIf m runs r t w stepped) is ready)
   where
     by : (stepped : Stepped) → IsWorkReadyIf m runs r t (works.Statement run) stepped → IsReadyIf runs r t run stepped

@@ -135,7 +135,7 @@ none_visited m c old new run (inr none) table place its at = absurd (let both : 
 pub one_visited : {R P : Type 0} (m : Means R P) (c : Collecting R P) (old new : R) (run : RunOf R P) (table : Table)
     (place : P) (gone : Bool) → table_at run.phase ≡ Some table → place_at run.phase ≡ Some place
     → Collects m c old new table place gone → VisitedIsCollected m c old new run
-one_visited m c old new run table place gone its at collects other elsewhere its_other at_other = (
+one_visited {P = P} m c old new run table place gone its at collects other elsewhere its_other at_other = (
   gone,
   subst (λ (x : Table). Collects m c old new x elsewhere gone) (one table other (sym its ∙ its_other))
       (subst (λ (p : P). Collects m c old new table p gone) (one place elsewhere (sym at ∙ at_other)) collects),
