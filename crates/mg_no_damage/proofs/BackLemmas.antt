@@ -155,30 +155,32 @@ module _ {D P : Type 0} (m : Meaning D) (known : KnownOfBacks D P m) (law : Keys
     (undo : Undo) (core : IsCore m old) (none : TellsTables old t.0 point false) (has_begun : HasBegun old begun t.0 undo)
     (reaches : MayReach undo point) (o : Opening) (h : Entries) (stands : StandsFor m old o h) (given : List Kept)
     (end : Undo) (all : GivesAll (going_to undo point) given end) where
-  abbrev s : Standing
-  s = standing_of old stands.numbers stands.tables
+  abbrev standing_then : Standing
+  standing_then = standing_of old stands.numbers stands.tables
 
-  abbrev whole : List Change
-  whole = since_point point (deeds_by t.0 (steps o h))
+  abbrev deeds_then : List Change
+  deeds_then = since_point point (deeds_by t.0 (steps o h))
 
-  shows : ShowsIt m old o h (standing_of old stands.numbers stands.tables)
-  shows = shows_of m old o h stands has_begun.continues.0
+  shows_then : ShowsIt m old o h (standing_of old stands.numbers stands.tables)
+  shows_then = shows_of m old o h stands has_begun.continues.0
 
-  back_so : IsBackEntry o h (entry (back_event t point) Fine) t.0 point
-  back_so = back_entry m old t point undo has_begun.continues has_begun.its o h stands known.notes reaches
+  back_then : IsBackEntry o h (entry (back_event t point) Fine) t.0 point
+  back_then = back_entry m old t point undo has_begun.continues has_begun.its o h stands known.notes reaches
       (leaves_the_catalog m known old begun t point undo has_begun reaches none o h stands)
 
-  are_given : AreGiven o h (entry (back_event t point) Fine) t.0 (s.number t.0) whole given
-  are_given = known.undo_gives old.store.geometry.size (left_state everyone s.state)
-      (shown old.store.dirty shows.image) shows.stands.shows.layout shows.stands.shows.reading
-      shows.stands.shows.sound o h (entry (back_event t point) Fine) point t.0 s given end shows.stands.memory
-      has_begun.continues.1 (shows.stands.shows.tables t.0 has_begun.continues.1) back_so.back back_so.may
-      back_so.leaves (subst (λ (u : Undo). GivesAll (going_to u point) given end)
+  given_then : AreGiven o h (entry (back_event t point) Fine) t.0 (standing_then.number t.0) deeds_then given
+  given_then = known.undo_gives old.store.geometry.size (left_state everyone standing_then.state)
+      (shown old.store.dirty shows_then.image) shows_then.stands.shows.layout shows_then.stands.shows.reading
+      shows_then.stands.shows.sound o h (entry (back_event t point) Fine) point t.0 standing_then given end
+      shows_then.stands.memory
+      has_begun.continues.1 (shows_then.stands.shows.tables t.0 has_begun.continues.1) back_then.back back_then.may
+      back_then.leaves (subst (λ (u : Undo). GivesAll (going_to u point) given end)
       (sym has_begun.its.2 ∙ sym (ap undo_kept has_begun.its.1)) all)
 
   pub all_stand : StandAll m t.0 (not_asking t.0 begun) given
   all_stand front later c mid parts takes = change_stands m known law missing old begun mid t point undo core has_begun o h
-      stands shows (first_of whole) [] are_given.each are_given.keys mid front later c (sym parts ∙ are_given.given_is)
+      stands shows_then (first_of deeds_then) [] given_then.each given_then.keys mid front later c
+      (sym parts ∙ given_then.given_is)
       (subst (λ (x : Core D). TakesChanges m t.0 x front mid)
       (ap (λ (x : Core D). not_asking t.0 x) has_begun.ended.same) takes) enter
 

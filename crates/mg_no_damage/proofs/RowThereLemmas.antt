@@ -9,6 +9,7 @@ use Rattle.mg_chain.specs.Views.{first_entry, is_dead}
 use Rattle.mg_engine_steps.specs.standing.Listed.{page_listed}
 use Rattle.mg_engine_steps.specs.tables.TablePages.{table_there}
 use Rattle.mg_heap.specs.Table.{IsTable}
+use Rattle.mg_heap.specs.Walk.{is_primary}
 use Rattle.mg_image.specs.Form.{Pages, packed_form}
 use Rattle.mg_image.specs.RecordRules.{Facts}
 use Rattle.mg_image.specs.Records.{Cells, Chain, Reading, cells_of, ended, goes, record_key, writer}
@@ -29,6 +30,7 @@ use Rattle.mg_seek.specs.TableRecords.{EachRecord, IsAmong}
 use Rattle.mg_seek.specs.Versions.{IsFirst, wants}
 use Rattle.mg_seek.specs.declared.walk.Placed.{Placed}
 use Rattle.mg_seek.specs.declared.whose.Wanted.TheVariants.{Any, Living}
+use Rattle.mg_slots.specs.DataPage.{cell_of}
 use Rattle.mg_snap.specs.Live.{State as Bases}
 use Rattle.mg_table_unmaking.specs.Rows.{IsAlone}
 use Rattle.mg_value.specs.declared.value.Value.{Value}
@@ -110,6 +112,8 @@ module _ (speakers : SpeakersOfReadings) (places : PlacesOfReadings) (size : ℕ
       on_page = subst (λ (ns : List ℕ). Has ns reads.p.page.0)
           (sym (data_same spoken.of_table.pointers spoken.of_table.data_pages spoken.of_table.table))
           ((its_data packed_form size sound_by view layout q sound table stands reads.p.page.0).0 reads.of)
+
+      primary : is_primary (cell_of (view reads.p.page.0) reads.p.slot) ≡ true
       primary = let (l, is) = link_there (cells_of view) (newest_link view reads.p) reads.version [] chain in
           newest_primary view reads.p l is
 

@@ -15,7 +15,7 @@ use Rattle.mg_pool.specs.declared.fault.PoolFault.TheVariants as faults
 use Rattle.mg_pool.specs.declared.pool.Pool.{Pool}
 use Rattle.mg_records.specs.Writing.{FitsShape}
 use Rattle.mg_records.specs.declared.write.Write.{Write}
-use Rattle.mg_records.specs.declared.write.Write.TheVariants as writes
+use Rattle.mg_records.specs.declared.write.Write.TheVariants as write_kinds
 use Rattle.mg_row_writes.specs.Laying.{FailsEntering, FailsLay, FailsThen, no_first, no_place, not_cleared, not_entered, not_pushed, not_put_in}
 use Rattle.mg_row_writes.specs.Changing.{FailsFirst, FailsOver, FailsReplacing}
 use Rattle.mg_row_writes.specs.Storing.{written_at}
@@ -56,9 +56,9 @@ use Rattle.mg_no_damage.proofs.WriteParts.{WriteParts}
 
 entries_there : {D : Type 0} (m : Meaning D) (a b : Pool D FireLinks) (table : Table) (rec : RecId) (write : Write) (n : ℕ)
     → FailsEntering m a b table rec write (space.Pool (faults.Absent n)) → ⊥
-entries_there m a b table rec (writes.Insert row) n fails = own_there m fails.mid b _ _ n fails.refused
-entries_there m a b table rec (writes.Change key row) n fails = own_there m fails.mid b _ _ n fails.refused
-entries_there m a b table rec (writes.Erase key) n fails = absurd fails
+entries_there m a b table rec (write_kinds.Insert row) n fails = own_there m fails.mid b _ _ n fails.refused
+entries_there m a b table rec (write_kinds.Change key row) n fails = own_there m fails.mid b _ _ n fails.refused
+entries_there m a b table rec (write_kinds.Erase key) n fails = absurd fails
 
 then_there : {D : Type 0} (m : Meaning D) (a b : Pool D FireLinks) (table : Table) (rec : RecId) (write : Write)
     (puts : Pool D FireLinks → SpaceFault → Type 0) (n : ℕ)

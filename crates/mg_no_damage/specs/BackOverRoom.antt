@@ -163,7 +163,7 @@ module _ {D : Type 0} (m : Meaning D) (knows : KnowsRoom m) where
   other_stops known begun stopped t start refusal most stand gives lawful stops =
       let few = others_fewer begun.catalog.pointer.0 stops.given in
       let all = gives.next stops.given stops.left stops.change stops.steps stops.next in
-      let (more, (end, then_)) = given_then known start stops.left stops.given stops.change stops.steps stops.next in
+      let (more, end, then_) = given_then known start stops.left stops.given stops.change stops.steps stops.next in
       more_pages begun stopped (Some refusal)
       (pages_of_row * (length (others_of begun.catalog.pointer.0 stops.given) + 1)) (pages_of_row * most)
       (omega (arith, few, all))

@@ -149,7 +149,7 @@ module _ {D : Type 0} (m : Meaning D) (knows : KnowsRoom m) (known : KnowsGiven)
         (λ limit full. absurd cc)
     back_fails refusal (back_stopped begun undo has_begun reaches fails) =
         let stops = fails.stops in
-        let (more, (end, all)) = given_then known (going_to undo point) stops.left stops.given stops.change stops.steps
+        let (more, end, all) = given_then known (going_to undo point) stops.left stops.given stops.change stops.steps
         stops.next in
         as_rows (Some refusal) (pages_of_row * (length stops.given + 1)) (rows_each (length stops.given + 1)
         (records_back t.0 point (steps o h)) (next_few m known old t point undo has_begun.continues has_begun.its reaches

@@ -83,8 +83,8 @@ module _ {D : Type 0} (m : Meaning D) (holds : ToldAreHeld m) (eighteen : Insert
           → IsNotFull before.geometry (shown before.dirty image) 18 f
       by (faults.Full limit) image it refused lawful = there before.geometry (shown before.dirty image) it.owner root
           it.levels e (faults.Full limit) it.tree lawful refused
-      by (faults.Damaged damage) image it refused lawful regions has named is = absurd cc
-      by (faults.Pool it_) image it refused lawful regions has named is = absurd cc
+      by (faults.Damaged damage) image it refused lawful = λ regions has named is. absurd cc
+      by (faults.Pool it_) image it refused lawful = λ regions has named is. absurd cc
 
   -- ---- the entries of a row
 
