@@ -146,7 +146,8 @@ module _ (o : Opening) (h : Entries) (live : State) (stands : BasesStandFor o h 
   some_misses : (by : ℕ) → is_committed (state by) ≡ true → (es : List Entered) → EachOf (IsBased o h live) es
       → list_any (misses by) es ≡ true → IsSeenByEach o h by → ⊥
   some_misses by committed [] each is all = absurd cc
-  some_misses by committed (e ∷ es) each is all = at (misses by e) refl is
+  some_misses by committed (e ∷ es) each is all =
+      at (misses by e) refl is (λ further. some_misses by committed es each.1 further all)
     where
       one : misses by e ≡ true → ⊥
       one misses_it =
@@ -156,9 +157,10 @@ module _ (o : Opening) (h : Entries) (live : State) (stands : BasesStandFor o h 
           (its.1 by ∙ (sym (saw_is e.number by its.0 committed) ∙ all e.number its.0))
           (true_of_not (base_sees e.base by) two.1)
 
-      at : (b : Bool) → misses by e ≡ b → (b || list_any (misses by) es) ≡ true → ⊥
-      at true misses_it is_ = one misses_it
-      at false misses_it is_ = some_misses by committed es each.1 is_ all
+      at : (b : Bool) → misses by e ≡ b → (b || list_any (misses by) es) ≡ true
+          → (list_any (misses by) es ≡ true → ⊥) → ⊥
+      at true misses_it is_ further = one misses_it
+      at false misses_it is_ further = further is_
 
   unseen : (by : ℕ) → is_committed (state by) ≡ true → all_see live by ≡ false → IsSeenByEach o h by → ⊥
   unseen by committed no_ = some_misses by committed live.entered based (negated (list_any (misses by) live.entered) no_)
