@@ -1,5 +1,6 @@
 //! The engine collects what its readers come to.
 
+ghost use Rattle.std.specs.Prelude.{◌≡◌};
 ghost use Rattle.mg_core.specs.Cores.{IsCore};
 ghost use Rattle.mg_works.specs.Works.{MayBeGiven};
 ghost use Rattle.mg_engine.specs.KeyCollecting.{CollectsAtKey, CollectsFound, KeyCollectionsGoOn};

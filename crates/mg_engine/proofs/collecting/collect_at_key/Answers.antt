@@ -4,11 +4,11 @@ use Rattle.mg_engine.specs.KeyCollecting.{CollectsFound}
 use Rattle.mg_engine.proofs.KeyCollectLemmas.{found_at_key}
 use Rattle.mg_engine.proofs.collecting.collect_at_key.Goals as goal
 
-pub returns-clause-collects : goal.returns-clause-collects
-returns-clause-collects g c = inl (c.in-Err.ensures, refl)
+pub returns-in-Err-clause-collects : goal.returns-in-Err-clause-collects
+returns-in-Err-clause-collects g c = inl (c.in-Err.ensures, refl)
 
-pub returns-in-Ok-clause-collects : goal.returns-in-Ok-clause-collects
-returns-in-Ok-clause-collects g c = found_at_key g.D.Disk.meaning c.args.core.now c.collect_found.new.core c.args.t
+pub returns-in-Ok-row_of_key-clause-collects : goal.returns-in-Ok-row_of_key-clause-collects
+returns-in-Ok-row_of_key-clause-collects g c = found_at_key g.D.Disk.meaning c.args.core.now c.collect_found.new.core c.args.t
     c.args.table.now c.args.key.now c.collect_found.result (record {
       continues = c.in-Ok.ensures;
       between = c.row_of_key.new.self;
@@ -20,6 +20,6 @@ returns-in-Ok-clause-collects g c = found_at_key g.D.Disk.meaning c.args.core.no
           c.collect_found.ensures.collects;
     })
 
-pub returns-in-Err-clause-collects : goal.returns-in-Err-clause-collects
-returns-in-Err-clause-collects g c =
+pub returns-in-Err-row_of_key-clause-collects : goal.returns-in-Err-row_of_key-clause-collects
+returns-in-Err-row_of_key-clause-collects g c =
     inr (inl (record { continues = c.in-Ok.ensures; fails = c.in-Err-row_of_key.ensures.reads }))
