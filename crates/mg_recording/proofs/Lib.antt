@@ -1,1 +1,2 @@
+mod CollectLemmas
 mod MakingLemmas
