@@ -8,7 +8,8 @@
 //! hold a statement, and those that begin with `@`, are bad lines here.
 //!
 //! Invariant: none, it keeps no state.
-//! Below: `mg_trace` for the opening, `mg_interleavings` and `mg_script` for answers and bad lines. Above: nothing yet.
+//! Below: `mg_trace` for the opening, `mg_interleavings` and `mg_script` for answers and bad lines. Above:
+//! `mg_storm_scripts`.
 //! Not here: the text of the history, which the keeper that records has, and the order of an opening's rows.
 #![tactic(auto)]
 
