@@ -329,7 +329,12 @@ gfix unmade validate
 gfix unmade commit 1
 gfix unmade rollback 1
 gfix unmade sweep
-gstat unmade
+gstat
+gstat -x
+gstat unmade 1
+gstat unmade --stop 1
+gstat unmade --page 1024
+gstat unmade list
 load unmade 1
 storm unmade
 list unmade
@@ -400,6 +405,69 @@ damaged_lists() {
     done
     check_list 'a file that is free again' held 'status 0'
     check 'a file that was locked stays as it is' "$before" "$(sum held)"
+}
+
+# ---- figures
+
+# figures FILE: what `gstat` printed, and its status behind it.
+figures() {
+    "$mgdb" gstat "$1" < /dev/null
+    echo "status $?"
+}
+
+# check_figures NAME FILE WANTED: the figures of a file, which stays as it is.
+check_figures() {
+    local before
+    before=$(sum "$2")
+    check "the figures of $1" "$3" "$(figures "$2")"
+    check "the figures of $1 leave the file as it is" "$before" "$(sum "$2")"
+}
+
+# head_of SIZE NEXT OIT OAT OST: the lines before those of the pages.
+head_of() {
+    printf 'PAGE SIZE %s\nVERSION 1.0\nNEXT %s\nOIT %s\nOAT %s\nOST %s\nSWEEP INTERVAL 20000\nSWEEP DUE NO\n' "$@"
+}
+
+file_figures() {
+    local before bytes
+    check 'the figures of no file' $'mgdb: NOT A DATABASE MAGIC FOUND 0\nstatus 4' "$(figures absent)"
+    check 'figures make no file' 'no' "$([ -e absent ] && echo yes || echo no)"
+    : > bare
+    check_figures 'an empty file' bare $'mgdb: NOT A DATABASE MAGIC FOUND 0\nstatus 4'
+    for bytes in 1024 4096 16384; do
+        rm -f sized
+        run sized '' --page "$bytes" > /dev/null
+        check_figures "a new database, $bytes bytes a page" sized \
+            "$(head_of "$bytes" 1 1 1 1)"$'\nPAGES 7\nTIP PAGES 1\nTABLE KV RECORDS 0 VERSIONS 0 PAGES 1\nstatus 0'
+    done
+    rm -f counted
+    run counted '@put 1 10\n@put 1 20\nA: SET TRANSACTION\nA: CREATE TABLE B (ID BIGINT PRIMARY KEY)\nA: INSERT INTO B VALUES (1)\nA: COMMIT\n' > /dev/null
+    check 'the figures of two tables' $'TABLE B RECORDS 1 VERSIONS 1 PAGES 1\nTABLE KV RECORDS 1 VERSIONS 2 PAGES 1\nstatus 0' \
+        "$(figures counted | tail -n 3)"
+    # (two bits for each transaction, from byte 20 of page 2 on: 3, which has made table B, is put into limbo)
+    set_byte counted 8212 127
+    check 'a table that limbo has made is not named' $'TABLE KV RECORDS 1 VERSIONS 2 PAGES 1\nLIMBO 3\nstatus 0' \
+        "$(figures counted | tail -n 3)"
+    before=$(sum counted)
+    "$mgdb" gstat counted < /dev/null >&-
+    check 'figures to a closed output end with 5' 5 $?
+    check 'figures to a closed output leave the file as it is' "$before" "$(sum counted)"
+}
+
+damaged_figures() {
+    printf 'hello' > letter
+    check_figures 'a text' letter $'mgdb: NOT A DATABASE MAGIC FOUND 0\nstatus 4'
+    fresh damaged
+    set_byte damaged 44 0
+    check_figures 'a damaged header' damaged $'mgdb: DAMAGED PAGE 0 LINK FOUND 0 WANTED 131071\nstatus 4'
+    fresh damaged
+    set_byte damaged 24580 7
+    check_figures 'a data page with the number of another' damaged $'mgdb: DAMAGED PAGE 6 OWN FOUND 7 WANTED 6\nstatus 4'
+    fresh damaged
+    truncate -s 24576 damaged
+    check_figures 'a cut file' damaged $'mgdb: DAMAGED PAGE 6 PRESENCE FOUND 6 WANTED 7\nstatus 4'
+    mkdir drawer
+    check 'the figures of a folder' $'mgdb: DISK READ FAULT\nstatus 3' "$(figures drawer)"
 }
 
 # ---- what is left of a run
@@ -474,6 +542,8 @@ many_waits
 other_fixes
 limbo_lists
 damaged_lists
+file_figures
+damaged_figures
 stopped_runs
 kills
 finish 'real files'

@@ -17,7 +17,9 @@ use mg_header::CATALOG_AT;
 use std::alloc::Global;
 
 /// The first pointer page of the catalog, as the header names it; an image without pages names 0.
-fn first_pointer(size: u32, pages: &[Bytes]) -> u32
+///
+/// `size` is the page size in bytes.
+pub fn first_pointer(size: u32, pages: &[Bytes]) -> u32
     requires { IsWholeImage size pages.now }
     ensures { result ≡ first_of (page_at size pages.now) }
 {

@@ -6,10 +6,10 @@
 //!
 //! Invariant: none, it keeps no state. It reads pages that the caller lends.
 //! Below: `mg_check_front`, for the first three; `mg_check_tables`, for the pages of one table.
-//! Above: nobody yet; the rungs behind, which read the catalog's records and the other tables.
+//! Above: `mg_file_figures`, and the rungs behind, which read the catalog's records and the other tables.
 //! Not here: those rungs.
 #![tactic(auto)]
 
 mod catalog;
 
-pub use catalog::rung_findings;
+pub use catalog::{first_pointer, rung_findings};

@@ -1,5 +1,5 @@
 -- The walks over the records of a table, one after another.
-use Rattle.std.specs.Prelude.{◌≡◌, ◌<◌, ◌≤◌, ◌+◌, ◌-◌, ◌*◌, ◌&&◌, ℕ, zero, suc, Bool, true, false, nat_lt, List, [], ◌∷◌, ◌++◌, Option, Result, Ok, Err, OnOk, length, replicate}
+use Rattle.std.specs.Prelude.{◌≡◌, ◌<◌, ◌≤◌, ◌+◌, ◌-◌, ◌*◌, ◌&&◌, ℕ, zero, suc, Bool, true, false, nat_lt, List, [], ◌∷◌, ◌++◌, Option, Result, Ok, Err, OnOk, IfOk, length, replicate}
 use Rattle.std.proofs.Common.{refl, sym, ap, ◌∙◌, inl, inr, arith, subst, add-one, get_or, append-nil}
 use Rattle.std.proofs.lemmas.List.{append_assoc, length-replicate}
 use Rattle.mg_base.specs.declared.geometry.TheConstants.{GREATEST_LIMIT}
@@ -40,6 +40,25 @@ none_marked ns most count x = at (has ns x.page.0) (nat_lt x.slot most)
     at false b clear = refl
     at true false clear = refl
     at true true clear = clear
+
+pub clear_met : (ns : List ℕ) (size count : ℕ) (result : Result (List Bool) Memory)
+    → IfOk result (λ marks. marks ≡ replicate count false)
+    → IfOk result (λ marks. met_in ns (most_slots size) marks ≡ none_met)
+clear_met ns size count (Ok marks) clear = ap (met_in ns (most_slots size)) clear
+    ∙ (λ i x. none_marked ns (most_slots size) count x i)
+clear_met ns size count (Err fault) clear = tt
+
+pub clear_long : (count : ℕ) (result : Result (List Bool) Memory)
+    → IfOk result (λ marks. marks ≡ replicate count false) → IfOk result (λ marks. length marks ≡ count)
+clear_long count (Ok marks) clear = ap length clear ∙ length-replicate {A = Bool} count false
+clear_long count (Err fault) clear = tt
+
+pub clear_by : (most count : ℕ) (size : ℕ) (ns : List ℕ) (result : Result (List Bool) Memory)
+    → most ≡ most_slots size → IfOk result (λ marks. marks ≡ replicate (length ns * most) false)
+    → IfOk result (λ marks. marks ≡ replicate (length ns * most_slots size) false)
+clear_by most count size ns (Ok marks) same clear =
+    clear ∙ ap (λ (m : ℕ). replicate (length ns * m) false) same
+clear_by most count size ns (Err fault) same clear = tt
 
 pub walked_none : (h : Cells) (table : Table) (ns : List ℕ) (size count : ℕ)
     → IsWalkedOver h table ns size [] (replicate count false) []

@@ -3,3 +3,4 @@ pub mod Marks
 pub mod Reads
 pub mod Records
 pub mod WalkLaws
+pub mod Listing

@@ -1,7 +1,8 @@
 //! Which cells of a table were met.
 
-ghost use Rattle.std.specs.Prelude.{◌≡◌, ◌<◌, false, true, IfOk, length, replicate, slice_set};
+ghost use Rattle.std.specs.Prelude.{◌≡◌, ◌≤◌, ◌<◌, false, true, IfOk, length, replicate, slice_set};
 ghost use Rattle.std.proofs.Common.{get_or};
+ghost use Rattle.mg_check_records.specs.Listing.{mark_number as number_of_mark, set_below};
 
 use mg_base::Memory;
 use std::alloc::Global;
@@ -19,6 +20,14 @@ impl Model for Marks {
     ghost Value = { List Bool };
 
     ghost view = { λ marks. marks.items.items };
+}
+
+/// A mark as a number.
+fn mark_number(mark: bool) -> usize
+    ensures number { result ≡ number_of_mark mark }
+    ensures most { result ≤ 1 }
+{
+    if mark { 1 } else { 0 }
 }
 
 impl Marks {
@@ -48,5 +57,16 @@ impl Marks {
         ensures { self.new ≡ slice_set self.old at true }
     {
         self.items[at] = true;
+    }
+
+    /// How many marks are set.
+    pub fn count(&self) -> usize
+        ensures { result ≡ set_below self.now (length self.now) }
+    {
+        let mut count = 0;
+        for at in 0..self.items.len() {
+            count += mark_number(self.has(at));
+        }
+        count
     }
 }

@@ -1,12 +1,12 @@
 //! The records of a table, one after another.
 
-ghost use Rattle.std.specs.Prelude.{◌≡◌, ◌≤◌, ◌*◌, ◌++◌, IfOk, List, OnOk, [], ◌∷◌, false, length};
+ghost use Rattle.std.specs.Prelude.{◌≡◌, ◌≤◌, ◌*◌, ◌++◌, IfOk, List, OnOk, [], ◌∷◌, false, length, replicate};
 ghost use Rattle.mg_base.specs.declared.numbers.RecId.{RecId as AnyPlace};
 ghost use Rattle.mg_base.specs.Image.{page_at};
 ghost use Rattle.mg_check_data.specs.DataRung.{HasCells};
 ghost use Rattle.mg_check_inventory.specs.ImagePages.{IsWholeImage};
-ghost use Rattle.mg_check_records.specs.Marks.{most_slots as most_slots_of};
-ghost use Rattle.mg_check_records.specs.Records.{IsWalkedOver, end_list, places_of, slots_below};
+ghost use Rattle.mg_check_records.specs.Marks.{met_in, most_slots as most_slots_of};
+ghost use Rattle.mg_check_records.specs.Records.{IsWalkedOver, end_list, none_met, places_of, slots_below};
 ghost use Rattle.mg_image.specs.Records.{cells_of, newest_of as newest_in, slot_cell as slot_cell_of};
 ghost use Rattle.mg_image.specs.Sound.{IsTableData};
 ghost use Rattle.mg_image.specs.Tables.{EachFrom, Has};
@@ -39,7 +39,7 @@ pub struct TableWalk {
 /// # Errors
 ///
 /// `Memory` only.
-fn newest_of(alloc: Global, page: &[u8], p: RecId) -> Result<Option<Link>, Memory>
+pub(crate) fn newest_of(alloc: Global, page: &[u8], p: RecId) -> Result<Option<Link>, Memory>
     requires lawful { IsDataPage page.now }
     requires cells { HasCells page.now }
     ensures { IfOk result (λ newest. newest
@@ -150,6 +150,32 @@ fn walk_page(
     Ok(())
 }
 
+/// A mark for each slot that the data pages of a table of an image can have, of which these are the pages. None is set.
+///
+/// `size` is the page size in bytes, `owner` the table's first pointer page, `data_pages` are its data pages.
+///
+/// # Errors
+///
+/// `Memory` only.
+pub fn no_marks(
+    alloc: Global,
+    size: u32,
+    pages: &[Bytes],
+    owner: u32,
+    data_pages: &[u32],
+) -> Result<Marks, Memory>
+    requires image { IsWholeImage size pages.now }
+    requires tested { EachFrom (IsTableData false size (page_at size pages.now) owner) 0
+        data_pages.now }
+    ensures clear { IfOk result (λ marks.
+        marks ≡ replicate (length data_pages.now * most_slots_of size) false) }
+    ensures len { IfOk result (λ marks. length marks ≡ length data_pages.now * most_slots_of size) }
+    ensures met { IfOk result (λ marks. met_in data_pages.now (most_slots_of size) marks ≡ none_met) }
+{
+    let count = data_pages.len() * most_slots(size) as usize;
+    Marks::new(alloc, count)
+}
+
 /// Walks over the records of a table of an image, of which these are the pages, in the order of their
 /// primary slots: what is found of their links and versions, and which cells were met. A cell that a
 /// second link leads to is told at the cell that holds that link.
@@ -171,12 +197,12 @@ pub fn walk_table(
     requires columns { length table.now.shape.columns ≤ MOST_COLUMNS }
     requires tested { EachFrom (IsTableData false size (page_at size pages.now)
         table.now.pointer.0) 0 data_pages.now }
-    ensures { IfOk result (λ it. IsWalkedOver (cells_of (page_at size pages.now)) table.now
+    ensures walked { IfOk result (λ it. IsWalkedOver (cells_of (page_at size pages.now)) table.now
         data_pages.now size (places_of (page_at size pages.now) data_pages.now) it.marks
         it.found.items) }
+    ensures marks { IfOk result (λ it. length it.marks ≡ length data_pages.now * most_slots_of size) }
 {
-    let count = data_pages.len() * most_slots(size) as usize;
-    let marks = Marks::new(alloc, count)?;
+    let marks = no_marks(alloc, size, pages, table.pointer.0, data_pages)?;
     let found = Vec::new(alloc);
     let mut at = TableWalk { found, marks };
     let mut rest = data_pages;

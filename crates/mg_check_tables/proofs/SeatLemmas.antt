@@ -1,6 +1,8 @@
 -- The data pages of a table as a list: one pointer page after another.
-use Rattle.std.specs.Prelude.{◌≡◌, ◌≢◌, ◌⊎◌, ◌↔◌, ◌<◌, ◌≤◌, ◌+◌, ◌*◌, ℕ, zero, suc, false, List, [], ◌∷◌, ◌++◌, Result, Ok, Err}
-use Rattle.std.proofs.Common.{refl, sym, ap, ◌∙◌, inl, inr, arith, subst, add-one}
+use Rattle.std.specs.Prelude.{◌≡◌, ◌≢◌, ◌⊎◌, ◌↔◌, ◌<◌, ◌≤◌, ◌+◌, ◌*◌, ℕ, zero, suc, false, List, [], ◌∷◌, ◌++◌, Result, Ok, Err, IfOk}
+use Rattle.std.proofs.Common.{refl, sym, ap, ◌∙◌, inl, inr, arith, subst, add-one, append-nil}
+use Rattle.std.specs.declared.alloc.Global.{Global}
+use Rattle.std.specs.declared.vec.Vec.{Vec}
 use Rattle.std.proofs.lemmas.Bool.{cases_lt}
 use Rattle.std.proofs.lemmas.List.{append_assoc}
 use Rattle.mg_base.specs.Checks.{verdict}
@@ -9,6 +11,7 @@ use Rattle.mg_base.specs.declared.damage.Damaged.{Damaged}
 use Rattle.mg_base.specs.declared.damage.Field.TheVariants.{Link}
 use Rattle.mg_base.specs.declared.fields.TheConstants.{SEQUENCE_AT}
 use Rattle.mg_base.specs.declared.geometry.TheConstants.{GREATEST_LIMIT}
+use Rattle.mg_base.specs.declared.memory.Memory.{Memory}
 use Rattle.mg_check_data.specs.DataRung.{IsDataFinding}
 use Rattle.mg_check_data.specs.declared.data.DataSeat.{DataSeat}
 use Rattle.mg_check_inventory.specs.ImagePages.{lawful_link, link_checks, numbered}
@@ -16,13 +19,14 @@ use Rattle.mg_check_tables.proofs.ChainLemmas.{chain_ended, chain_here, chain_ne
 use Rattle.mg_check_tables.specs.FewPlaces.{IsToldBelow, places_few}
 use Rattle.mg_check_tables.proofs.PointerLemmas.{sequence_of}
 use Rattle.mg_check_tables.proofs.TableLemmas.{pages_more, pages_none}
-use Rattle.mg_check_tables.specs.Seats.{AreSeats, AreWanted, IsSeatFinding, entry_seats, seat_on}
+use Rattle.mg_check_tables.specs.Seats.{AreDataPages, AreSeats, AreWanted, IsSeatFinding, entry_seats, seat_on, seat_pages}
 use Rattle.mg_check_tables.specs.TableRung.{HasPagesFrom, IsChainFinding, IsEntryBelow, IsEntryFinding, IsPointerFinding, IsTableFinding}
 use Rattle.mg_findings.specs.declared.finding.Finding.{Finding}
-use Rattle.mg_findings.specs.Findings.{Tells}
+use Rattle.mg_findings.specs.Findings.{HasNone, Tells, damage_finding}
 use Rattle.mg_image.specs.Form.{Pages}
 use Rattle.mg_image.specs.Sound.{IsTableData, IsTablePointer}
-use Rattle.mg_pointer.specs.PointerPage.{count_in, next_in, place_of}
+use Rattle.mg_image.specs.Tables.{PointerChain, ended, entries_in, goes}
+use Rattle.mg_pointer.specs.PointerPage.{count_in, entries_of, first_entries, next_in, place_of}
 
 -- ---- lists of seats
 
@@ -105,6 +109,57 @@ module _ (size : ℕ) (pages : Pages) (count : ℕ) where
       last : (k : ℕ) → k < suc i → i ≤ k → i ≡ k
       last k below past = omega (arith, below, past)
 
+-- ---- the pages that seats name
+
+pages_append : (xs ys : List DataSeat) → seat_pages (xs ++ ys) ≡ seat_pages xs ++ seat_pages ys
+pages_append [] ys = refl
+pages_append (x ∷ xs) ys = ap (λ (ns : List ℕ). x.page ∷ ns) (pages_append xs ys)
+
+entry_pages : (b : List ℕ) (owner n place i : ℕ)
+    → seat_pages (entry_seats b owner n place i) ≡ first_entries b i
+entry_pages b owner n place zero = refl
+entry_pages b owner n place (suc i) =
+    pages_append (entry_seats b owner n place i) (seat_on b owner n place i ∷ [])
+    ∙ ap (λ (ns : List ℕ). ns ++ u32_at b (place_of i) ∷ []) (entry_pages b owner n place i)
+
+-- those of a whole page
+page_entries : (b : List ℕ) (owner n place : ℕ)
+    → seat_pages (entry_seats b owner n place (count_in b)) ≡ entries_of b
+unfolding entries_of
+page_entries b owner n place = entry_pages b owner n place (count_in b)
+
+-- with the entries of the pointer pages from one on they are those of all pointer pages
+abbrev AreListed : Pages → ℕ → List DataSeat → ℕ → Type 0
+AreListed pages first seats n = (rest : List ℕ) → PointerChain pages n rest
+    → (pointers : List ℕ) × PointerChain pages first pointers
+    × (seat_pages seats ++ entries_in pages rest ≡ entries_in pages pointers)
+
+listed_page : (pages : Pages) (first : ℕ) (seats new : List DataSeat) (n next place : ℕ) → n ≢ 0
+    → next ≡ next_in (pages n)
+    → new ≡ seats ++ entry_seats (pages n) first n place (count_in (pages n))
+    → AreListed pages first seats n → AreListed pages first new next
+listed_page pages first seats new n next place some next_is added before rest chain =
+    let whole = before (n ∷ rest) (goes n rest some
+    (subst (λ (k : ℕ). PointerChain pages k rest) next_is chain)) in
+    (whole.0, whole.1, same ∙ whole.2)
+  where
+    same : seat_pages new ++ entries_in pages rest
+        ≡ seat_pages seats ++ (entries_of (pages n) ++ entries_in pages rest)
+    same = ap (λ (ns : List ℕ). ns ++ entries_in pages rest)
+        (ap seat_pages added ∙ (pages_append seats (entry_seats (pages n) first n place (count_in (pages n)))
+        ∙ ap (λ (ns : List ℕ). seat_pages seats ++ ns) (page_entries (pages n) first n place)))
+        ∙ append_assoc (seat_pages seats) (entries_of (pages n)) (entries_in pages rest)
+
+-- where the chain ends they are all
+listed_all : (pages : Pages) (first : ℕ) (seats : List DataSeat) (n : ℕ) → n ≡ 0
+    → AreListed pages first seats n → AreDataPages pages first (seat_pages seats)
+listed_all pages first seats n none listed =
+    let whole = listed [] (subst (λ (k : ℕ). PointerChain pages k []) (sym none) ended) in record {
+      pointers = whole.0;
+      chain = whole.1;
+      entries = sym (append-nil (seat_pages seats)) ∙ whole.2;
+    }
+
 -- ---- the walk
 
 -- How far a walk over the pointer pages has come, with these data pages in its list.
@@ -117,6 +172,7 @@ pub record IsListing (size : ℕ) (pages : Pages) (count holder first : ℕ) (se
       → HasPagesFrom size pages first first 0 0
   pub told : (k : ℕ) → k < at → IsToldBelow (λ m. u32_at (pages m) SEQUENCE_AT) GREATEST_LIMIT k
   pub room : place ≤ 16378 * at
+  pub listed : AreListed pages first seats n
 
 pub listing_first : (size : ℕ) (pages : Pages) (count holder first : ℕ) (seats : List DataSeat)
     → seats ≡ [] → IsListing size pages count holder first seats holder first 0 0
@@ -130,6 +186,7 @@ listing_first size pages count holder first seats empty = subst
       decided = λ all has. has;
       told = λ k below. absurd (omega (arith, below));
       room = omega arith;
+      listed = λ rest chain. (rest, chain, refl);
     })
 
 module _ (size : ℕ) (pages : Pages) (count holder first : ℕ) (seats : List DataSeat)
@@ -182,6 +239,7 @@ module _ (size : ℕ) (pages : Pages) (count holder first : ℕ) (seats : List D
           ])),
         );
     decided = λ passed. absurd cc;
+    listed = λ passed. absurd cc;
   }
 
   -- or where the chain does,
@@ -201,6 +259,7 @@ module _ (size : ℕ) (pages : Pages) (count holder first : ℕ) (seats : List D
       some = has;
       whole = is.decided all (pages_none size pages first n at place none);
     };
+    listed = λ passed. listed_all pages first seats n none is.listed;
   }
 
   -- or it goes on
@@ -239,6 +298,7 @@ module _ (size : ℕ) (pages : Pages) (count holder first : ℕ) (seats : List D
             many_here rest);
         told = told_more pointer;
         room = omega (arith, is.room, few);
+        listed = listed_page pages first seats new n next place some next_here whole is.listed;
       }
     where
       next_here : next ≡ next_in (pages n)
@@ -292,6 +352,7 @@ no_seats size pages count holder first test none is = record {
     ],
   );
   decided = λ passed. absurd (failed (sym passed ∙ (is ∙ sym told)));
+  listed = λ passed. absurd (failed (sym passed ∙ (is ∙ sym told)));
 }
   where
     damage : Damaged
@@ -316,3 +377,22 @@ pub zero_seats : (size : ℕ) (pages : Pages) (count holder first : ℕ) (seats 
 zero_seats size pages count holder first seats test empty none is =
     subst (λ (s : List DataSeat). AreSeats size pages count holder first s test) (sym empty)
     (no_seats size pages count holder first test none is)
+
+-- ---- a table in which nothing is found
+
+pub never_failed : (size : ℕ) (pages : Pages) (count holder first : ℕ) (seats : List DataSeat)
+    (test : Result (Unit {0}) Damaged) (damage : Damaged)
+    → AreSeats size pages count holder first seats test
+    → HasNone (IsTableFinding size pages count holder first) → test ≡ Err damage → ⊥
+never_failed size pages count holder first seats test damage are none failed =
+    none (damage_finding damage) ((are.members (damage_finding damage)).1
+    (inl (subst (λ (t : Result (Unit {0}) Damaged). Tells t (damage_finding damage)) (sym failed) refl)))
+
+pub passed_pages : (size : ℕ) (pages : Pages) (count holder first : ℕ) (seats items : List DataSeat)
+    (test : Result (Unit {0}) Damaged) (result : Result (Vec ℕ Global) Memory)
+    → AreSeats size pages count holder first items test → test ≡ Ok tt → seats ≡ items
+    → IfOk result (λ numbers. numbers.items ≡ seat_pages seats)
+    → IfOk result (λ numbers. AreDataPages pages first numbers.items)
+passed_pages size pages count holder first seats items test (Ok numbers) are passed same told =
+    subst (AreDataPages pages first) (sym (told ∙ ap seat_pages same)) (are.listed passed)
+passed_pages size pages count holder first seats items test (Err fault) are passed same told = tt

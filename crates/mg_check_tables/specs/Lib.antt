@@ -1,3 +1,4 @@
 pub mod TableRung
 pub mod FewPlaces
 pub mod Seats
+pub mod DataPageLaws

@@ -9,6 +9,7 @@ use Rattle.mg_findings.specs.declared.finding.Finding.{Finding}
 use Rattle.mg_findings.specs.Findings.{Tells}
 use Rattle.mg_image.specs.Form.{Pages}
 use Rattle.mg_image.specs.Sound.{IsTableData}
+use Rattle.mg_image.specs.Tables.{PointerChain, entries_in}
 use Rattle.mg_pointer.specs.PointerPage.{place_of}
 
 -- a data page as an entry of these bytes of a pointer page names it, whose first entry has a place
@@ -41,6 +42,17 @@ abbrev pub AreWanted : ℕ → Pages → List DataSeat → Type 0
 AreWanted size pages [] = Unit {0}
 AreWanted size pages (seat ∷ seats) = IsWanted size pages seat × AreWanted size pages seats
 
+-- the pages that seats name
+abbrev pub seat_pages : List DataSeat → List ℕ
+seat_pages [] = []
+seat_pages (seat ∷ seats) = seat.page ∷ seat_pages seats
+
+-- These are the data pages of a table, in the order of the entries of its pointer pages.
+pub record AreDataPages (pages : Pages) (first : ℕ) (ns : List ℕ) : Type 0 where
+  pub pointers : List ℕ
+  pub chain : PointerChain pages first pointers
+  pub entries : ns ≡ entries_in pages pointers
+
 -- The pointer pages of a table were followed up to the first damage, if there is one: these are the
 -- data pages that those before it name. What is found in the table's pages is that damage, and what
 -- is found of these.
@@ -50,3 +62,5 @@ pub record AreSeats (size : ℕ) (pages : Pages) (count holder first : ℕ) (sea
       ↔ (Tells test f ⊎ IsSeatFinding size pages count seats f)
   -- where no pointer page is damaged, the table is as wanted if these pages are
   pub decided : test ≡ Ok tt → AreWanted size pages seats → HasTable size pages first
+  -- where none is damaged, these are all of its data pages
+  pub listed : test ≡ Ok tt → AreDataPages pages first (seat_pages seats)

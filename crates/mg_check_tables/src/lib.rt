@@ -21,5 +21,5 @@ mod seats;
 mod table;
 
 pub use laws::lawful_tables_pass;
-pub use seats::{TableSeats, table_seats};
+pub use seats::{TableSeats, data_pages_of, table_seats};
 pub use table::note_table;

@@ -3,7 +3,9 @@
 ghost use Rattle.std.specs.Prelude.{◌≡◌, ◌≢◌, ◌<◌, ◌+◌, ◌++◌, ◌^◌, IfOk, OnOk, length};
 ghost use Rattle.mg_base.specs.Image.{page_at};
 ghost use Rattle.mg_check_inventory.specs.ImagePages.{IsWholeImage};
-ghost use Rattle.mg_check_tables.specs.Seats.{AreSeats, entry_seats};
+ghost use Rattle.mg_check_tables.specs.Seats.{AreDataPages, AreSeats, entry_seats, seat_pages as pages_of_seats};
+ghost use Rattle.mg_check_tables.specs.TableRung.{IsTableFinding};
+ghost use Rattle.mg_findings.specs.Findings.{HasNone};
 ghost use Rattle.mg_pointer.specs.PointerPage.{IsPointerPage, count_in};
 
 use crate::entries::{EntrySeat, count_of, seat_of};
@@ -122,4 +124,47 @@ pub fn table_seats(
         });
     }
     chain_seats(alloc, size, pages, holder, first)
+}
+
+/// The pages that seats name.
+///
+/// # Errors
+///
+/// `Memory` only.
+fn seat_pages(alloc: Global, seats: &[DataSeat]) -> Result<Vec<u32>, Memory>
+    ensures { IfOk result (λ numbers. numbers.items ≡ pages_of_seats seats.now) }
+{
+    let mut numbers = Vec::new(alloc);
+    let mut rest = seats;
+    while let Some((seat, later)) = rest.split_first() {
+        numbers.push(seat.page)?;
+        rest = later;
+    }
+    Ok(numbers)
+}
+
+/// The data pages of a table of an image, of which these are the pages, in the order of the entries of its pointer pages.
+/// Nothing is found in the table (`note_table`).
+///
+/// `size` is the page size in bytes, `holder` the page that names the first pointer page, `first` that page's number.
+///
+/// # Errors
+///
+/// `Memory` only.
+pub fn data_pages_of(
+    alloc: Global,
+    size: u32,
+    pages: &[Bytes],
+    holder: u32,
+    first: u32,
+) -> Result<Vec<u32>, Memory>
+    requires image { IsWholeImage size pages.now }
+    requires none { HasNone (IsTableFinding size (page_at size pages.now) (length pages.now) holder first) }
+    ensures { IfOk result (λ numbers. AreDataPages (page_at size pages.now) first numbers.items) }
+{
+    let it = table_seats(alloc, size, pages, holder, first)?;
+    match it.test {
+        Ok(()) => seat_pages(alloc, it.seats.as_slice()),
+        Err(_) => unreachable!(),
+    }
 }

@@ -20,8 +20,8 @@
 //! leading zero, and below 2^32. A path that begins with `-` is none, so that no mistyped option makes a file.
 //!
 //! Invariant: none, it keeps no state.
-//! The program has two of these commands, `run DB` and `gfix DB list` (`ProgramCommand`), and `read_command` tells which one
-//! is asked for. The words of another one are no command line of the program until it has it.
+//! The program has three of these commands, `run DB`, `gstat DB` and `gfix DB list` (`ProgramCommand`), and `read_command` tells
+//! which one is asked for. The words of another one are no command line of the program until it has it.
 //!
 //! Below: `mg_words`, for numbers that are spelled and the options of `run DB`. Above: `mg_program`.
 //! Not here: what a command does; tests of single command lines (`mg_commands_tests`).
@@ -35,5 +35,5 @@ mod word;
 
 pub use command::{Care, Command, Options};
 pub use deciding::{are_words, lines_ask_once};
-pub use program::{ProgramCommand, read_command, run_lines_list_none};
+pub use program::{ProgramCommand, read_command, run_lines_list_none, stat_lines_ask_once};
 pub use word::{CareWord, CommandWord};

@@ -4,7 +4,7 @@ ghost use Rattle.std.specs.Prelude.{◌≡◌, ◌↔◌, ℕ, IsTrue, List, Mat
 ghost use Rattle.mg_words.specs.Words.{IsRun, texts};
 ghost use Rattle.mg_words.specs.declared.asked.Asked.{Asked as AnyAsked};
 ghost use Rattle.mg_commands.specs.CommandLine.{Asks};
-ghost use Rattle.mg_commands.specs.Program.{AsksFor, IsLimboLine, IsProgramLine};
+ghost use Rattle.mg_commands.specs.Program.{AsksFor, IsLimboLine, IsProgramLine, IsStatLine};
 ghost use Rattle.mg_commands.specs.declared.command.Care.TheVariants.{ListLimbo as ListCare};
 ghost use Rattle.mg_commands.specs.declared.command.Command.TheVariants.{Fix as FixCommand};
 
@@ -19,6 +19,8 @@ pub enum ProgramCommand {
     Run(Asked),
     /// Lists the transactions in limbo.
     ListLimbo,
+    /// Prints the figures of a file.
+    Stat,
 }
 
 /// Whether words behind the path ask `gfix` for the transactions in limbo.
@@ -56,6 +58,24 @@ fn is_limbo_line(words: &[String]) -> bool
     is_list(rest)
 }
 
+/// Whether a word is `gstat`.
+fn is_gstat(word: &String) -> bool
+    ensures { IsTrue result ↔ (string_bytes word.now ≡ codes "gstat") }
+{
+    word.as_str() == "gstat"
+}
+
+/// Whether words ask for the figures of a file.
+fn is_stat_line(words: &[String]) -> bool
+    ensures { IsTrue result ↔ IsStatLine (texts words.now) }
+{
+    if words.len() < 3 || !is_gstat(&words[1]) || !is_path(&words[2]) {
+        return false;
+    }
+    let (_, rest) = words.split_at(3);
+    rest.is_empty()
+}
+
 /// What words ask for, if they are a command line of a command that the program has. It takes no memory.
 pub fn read_command(words: &[String]) -> Option<ProgramCommand>
     ensures { MatchOption result (IsProgramLine (texts words.now) → ⊥) (AsksFor (texts words.now)) }
@@ -66,10 +86,19 @@ pub fn read_command(words: &[String]) -> Option<ProgramCommand>
     if is_limbo_line(words) {
         return Some(ProgramCommand::ListLimbo);
     }
+    if is_stat_line(words) {
+        return Some(ProgramCommand::Stat);
+    }
     None
 }
 
 /// A line of `run` does not ask for the transactions in limbo.
 pub fn run_lines_list_none()
     ensures { (words : List (List ℕ)) (asked : AnyAsked) → IsRun words asked → IsLimboLine words → ⊥ }
+{}
+
+/// A line that asks for the figures of a file is none of `run`, and does not ask for the transactions in limbo.
+pub fn stat_lines_ask_once()
+    ensures runs { (words : List (List ℕ)) (asked : AnyAsked) → IsRun words asked → IsStatLine words → ⊥ }
+    ensures lists { (words : List (List ℕ)) → IsLimboLine words → IsStatLine words → ⊥ }
 {}

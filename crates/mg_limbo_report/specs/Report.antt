@@ -19,8 +19,8 @@ use Rattle.mg_run_ends.specs.Ends.{FailsWith, refused_status, status}
 use Rattle.mg_run_ends.specs.Printing.{IsPrinted}
 use Rattle.mg_run_ends.specs.declared.status.Status.{Status}
 use Rattle.mg_script.specs.Texts.{refusal_text}
-use Rattle.mg_limbo_report.specs.declared.ending.LimboEnd.{LimboEnd}
-use Rattle.mg_limbo_report.specs.declared.ending.LimboEnd.TheVariants.{Told, Stream, Refused}
+use Rattle.mg_limbo_report.specs.declared.ending.LookEnd.{LookEnd}
+use Rattle.mg_limbo_report.specs.declared.ending.LookEnd.TheVariants.{Told, Stream, Refused}
 
 -- ---- texts
 
@@ -102,13 +102,13 @@ IsCareRefusal refusal = ⊥
 
 -- ---- ends
 
-abbrev pub status_of : LimboEnd → Status
+abbrev pub status_of : LookEnd → Status
 status_of Told = status 0
 status_of Stream = status 5
 status_of (Refused refusal) = refused_status refusal
 
 -- an end by the disk comes only where its count of faults rose, and any other only where it stands
-abbrev pub EndsWith : {D : Type 0} → Meaning D → D → D → LimboEnd → Type 0
+abbrev pub EndsWith : {D : Type 0} → Meaning D → D → D → LookEnd → Type 0
 EndsWith m old new Told = m.faults new ≡ m.faults old
 EndsWith m old new Stream = m.faults new ≡ m.faults old
 EndsWith m old new (Refused refusal) = FailsWith m old new refusal
@@ -122,7 +122,7 @@ pub record TellsList {K : Type 0} (P : List TxNo → Type 0) (n : SinkMeaning K)
 -- what the sink took, by the end: all lines of such a list; a part of them, where the sink failed; or the line of such a
 -- refusal, or a part of it where the sink failed
 abbrev pub Tells : {K : Type 0} → (List TxNo → Type 0) → (Refusal → Type 0) → SinkMeaning K → K → K
-    → LimboEnd → Type 0
+    → LookEnd → Type 0
 Tells P R n old new Told = TellsList P n old new × (n.faults new ≡ n.faults old)
 Tells P R n old new Stream = TellsList P n old new × Rose (n.faults old) (n.faults new)
 Tells P R n old new (Refused refusal) = R refusal × IsPrinted n old new (care_text refusal)
@@ -133,11 +133,11 @@ IsSaid refusal told =
     (told ≡ refusal) ⊎ ((is_fixed refusal ≡ false) × (told ≡ refusals.Memory))
 
 -- the line of a refusal is told
-abbrev pub SaysRefusal : {K : Type 0} → SinkMeaning K → K → K → Refusal → LimboEnd → Type 0
+abbrev pub SaysRefusal : {K : Type 0} → SinkMeaning K → K → K → Refusal → LookEnd → Type 0
 SaysRefusal n old new refusal end =
     Tells (λ list. ⊥) (IsSaid refusal) n old new end
 
 -- the lines of this list are told; or there is no memory for them
-abbrev pub SaysList : {K : Type 0} → SinkMeaning K → K → K → List TxNo → LimboEnd → Type 0
+abbrev pub SaysList : {K : Type 0} → SinkMeaning K → K → K → List TxNo → LookEnd → Type 0
 SaysList n old new list end =
     Tells (λ told. told ≡ list) (λ told. told ≡ refusals.Memory) n old new end

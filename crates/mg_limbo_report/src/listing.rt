@@ -18,7 +18,7 @@ use mg_overview::{ReadFault, read_image};
 use std::alloc::Global;
 
 /// The field of a damage.
-fn field_of(what: Rule) -> Field
+pub fn field_of(what: Rule) -> Field
     requires { IsDamage what }
     ensures { what ≡ Damage result }
 {
@@ -39,7 +39,7 @@ fn tells_kind(field: Field) -> bool
 }
 
 /// The refusal for a damage.
-fn refusal_of(finding: Finding, field: Field) -> Refusal
+pub fn refusal_of(finding: Finding, field: Field) -> Refusal
     ensures { result ≡ refusal_by field finding }
 {
     if tells_kind(field) {

@@ -3,3 +3,4 @@ pub mod Top
 pub mod Listing
 pub mod Complete
 pub mod Acknowledged
+pub mod Stating

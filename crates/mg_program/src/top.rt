@@ -1,19 +1,21 @@
 //! The top call: the whole program, over any disk and any streams.
 
 ghost use Rattle.std.specs.Prelude.{◌≡◌, ◌↔◌, ◌<◌, ◌≤◌, Some};
-ghost use Rattle.mg_commands.specs.Program.{IsLimboLine, IsProgramLine};
+ghost use Rattle.mg_commands.specs.Program.{IsLimboLine, IsProgramLine, IsStatLine};
 ghost use Rattle.mg_words.specs.declared.asked.Asked.{Asked as AnyAsked};
 ghost use Rattle.mg_words.specs.Words.{IsRun, texts};
 ghost use Rattle.mg_program.specs.Listing.{HasListed, ListsLimbo};
+ghost use Rattle.mg_program.specs.Stating.{HasTold, TellsStat};
 ghost use Rattle.mg_program.specs.Top.{HasRun, IsUsage, Runs, limit_asked};
 
 use crate::running::run;
 use mg_base::{GREATEST_LIMIT, Sink, Source};
-use mg_commands::{ProgramCommand, read_command, run_lines_list_none};
+use mg_commands::{ProgramCommand, read_command, run_lines_list_none, stat_lines_ask_once};
 use mg_fuse::{CountsWrites, Stopped, stopped_disks_are_asked_for_no_more};
-use mg_limbo_report::{LimboEnd, tell_limbo};
+use mg_limbo_report::{LookEnd, tell_limbo};
 use mg_pool::CLEAN_PAGES;
 use mg_run_ends::{RunEnd, Status, put_line};
+use mg_stat_report::tell_stat;
 use mg_words::Asked;
 use std::alloc::Global;
 
@@ -41,6 +43,8 @@ pub fn mgdb<R: AllocGlobal + Drop, D: CountsWrites + Send + 'static, S: Source, 
         result.1.first sink.old sink.new result.0 }
     ensures lists { IsLimboLine (texts words.now)
         → HasListed D.meaning K.meaning source.old source.new shelf.first result.1.first sink.old sink.new result.0 }
+    ensures tells { IsStatLine (texts words.now)
+        → HasTold D.meaning K.meaning source.old source.new shelf.first result.1.first sink.old sink.new result.0 }
     ensures second { result.1.second ≡ shelf.second }
     ensures range { result.0.0 < 8 }
 {
@@ -57,6 +61,8 @@ pub fn mgdb<R: AllocGlobal + Drop, D: CountsWrites + Send + 'static, S: Source, 
 /// makes the disk (`wanted_page`).
 ///
 /// `gfix DB list` prints the transactions in limbo. It reads no script and writes no page, so `--stop` changes nothing.
+///
+/// `gstat DB` prints the figures of the file. It reads no script and writes no page.
 ///
 /// A run keeps at most `clean` clean pages in memory, at least one. What is promised of it is the same for each number.
 pub fn mgdb_with<R: AllocGlobal + Drop, D: CountsWrites + Send + 'static, S: Source, K: Sink>(
@@ -76,10 +82,13 @@ pub fn mgdb_with<R: AllocGlobal + Drop, D: CountsWrites + Send + 'static, S: Sou
         result.1.first sink.old sink.new result.0 }
     ensures lists { IsLimboLine (texts words.now)
         → HasListed D.meaning K.meaning source.old source.new shelf.first result.1.first sink.old sink.new result.0 }
+    ensures tells { IsStatLine (texts words.now)
+        → HasTold D.meaning K.meaning source.old source.new shelf.first result.1.first sink.old sink.new result.0 }
     ensures second { result.1.second ≡ shelf.second }
     ensures range { result.0.0 < 8 }
 {
     run_lines_list_none();
+    stat_lines_ask_once();
     let Some(command) = read_command(words) else {
         put_line(b"mgdb: USAGE\n", sink);
         return (Status::USAGE, shelf);
@@ -94,15 +103,28 @@ pub fn mgdb_with<R: AllocGlobal + Drop, D: CountsWrites + Send + 'static, S: Sou
             let (end, first) = list_limbo(rt.alloc(), first, sink);
             (end.status(), Shelf { first, second })
         }
+        ProgramCommand::Stat => {
+            let (end, first) = tell_figures(rt.alloc(), first, sink);
+            (end.status(), Shelf { first, second })
+        }
     }
 }
 
 // Lists the transactions in limbo of a disk that comes back.
-fn list_limbo<D: CountsWrites, K: Sink>(alloc: Global, disk: D, sink: &mut K) -> (LimboEnd, D)
+fn list_limbo<D: CountsWrites, K: Sink>(alloc: Global, disk: D, sink: &mut K) -> (LookEnd, D)
     ensures { ListsLimbo D.meaning K.meaning disk result.1 sink.old sink.new result.0 }
 {
     let mut disk = disk;
     let end = tell_limbo(alloc, &mut disk, sink);
+    (end, disk)
+}
+
+// Tells the figures of a disk that comes back.
+fn tell_figures<D: CountsWrites, K: Sink>(alloc: Global, disk: D, sink: &mut K) -> (LookEnd, D)
+    ensures { TellsStat D.meaning K.meaning disk result.1 sink.old sink.new result.0 }
+{
+    let mut disk = disk;
+    let end = tell_stat(alloc, &mut disk, sink);
     (end, disk)
 }
 

@@ -1,0 +1,2 @@
+mod LookingLemmas
+mod TellingLemmas

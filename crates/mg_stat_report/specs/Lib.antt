@@ -1,1 +1,2 @@
 pub mod StatText
+pub mod Telling

@@ -1,9 +1,9 @@
 -- The printed figures of a file.
 use Rattle.std.specs.Prelude.{◌++◌, ℕ, Bool, true, false, List, [], ◌∷◌, codes, decimal}
 use Rattle.mg_base.specs.declared.numbers.TxNo.{TxNo}
+use Rattle.mg_file_figures.specs.declared.figures.FileFigures.{FileFigures}
+use Rattle.mg_file_figures.specs.declared.figures.TableFigures.{TableFigures}
 use Rattle.mg_stat.specs.declared.figures.Figures.{Figures}
-use Rattle.mg_stat_report.specs.declared.figures.FileFigures.{FileFigures}
-use Rattle.mg_stat_report.specs.declared.figures.TableFigures.{TableFigures}
 
 -- a line of a word and a number
 abbrev pub number_line : List ℕ → ℕ → List ℕ

@@ -1,17 +1,20 @@
-//! The figures of a file as they are printed: a line for each field of its header, for the sweep and
-//! the pages, a line for each table, and one for each transaction in limbo.
+//! The command that prints the figures of a file: a line for each field of its header, for the sweep and the pages, a line
+//! for each table, and one for each transaction in limbo.
 //!
-//! Owns: the text of the figures (`stat_text`), and the call that puts it behind another text. The
-//! lines stand in `docs/SCRIPT.md`.
+//! Owns: the command (`tell_stat`), over any disk and any sink, and the text of the figures (`stat_text`). Where something
+//! is found in the file, the one line is printed that says it. The disk is read once and nothing is written. The lines
+//! stand in `docs/SCRIPT.md`.
 //!
-//! Invariant: none, it keeps no state. It takes the memory of the text.
-//! Below: `mg_stat`, for the figures of the file as a whole; `mg_script`, for words and numbers.
-//! Above: nobody yet; the command `gstat`.
-//! Not here: what the figures are, and where the text goes.
+//! Invariant: none, it keeps no state. It has the pages of the disk in memory while it works, and the text.
+//! Below: `mg_overview`, which reads the disk; `mg_file_figures`, for the figures; `mg_script`, for words, numbers and
+//! the texts of refusals; `mg_limbo_report`, for how such a command ends; `mg_run_ends`, for lines that take no memory.
+//! Above: `mg_program`.
+//! Not here: what the figures are, the words that ask for them, and how a file becomes a disk.
 #![tactic(auto)]
 
-mod figures;
+mod looking;
+mod telling;
 mod text;
 
-pub use figures::{FileFigures, TableFigures};
+pub use telling::tell_stat;
 pub use text::put_stat;

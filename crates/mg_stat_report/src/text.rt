@@ -3,8 +3,8 @@
 ghost use Rattle.std.specs.Prelude.{◌≡◌, ◌++◌, OnOk};
 ghost use Rattle.mg_stat_report.specs.StatText.{count_text, counts_text, due_line, due_word as due_word_of, header_text, limbo_text, markers_text, number_line, pages_text, stat_text, sweep_text, table_line, tables_text, used_text};
 
-use crate::figures::{FileFigures, TableFigures};
 use mg_base::{Memory, TxNo};
+use mg_file_figures::{FileFigures, TableFigures};
 use mg_script::{put_number, put_word};
 use mg_stat::Figures;
 

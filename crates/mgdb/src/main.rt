@@ -1,5 +1,6 @@
 //! The program: `mgdb run DB` obeys the script on standard input, on the database in the file DB, and
-//! prints on standard output; `mgdb gfix DB list` prints the transactions in limbo of that file.
+//! prints on standard output; `mgdb gfix DB list` prints the transactions in limbo of that file, and `mgdb gstat DB` its
+//! figures.
 //!
 //! Owns: which file and which streams the top call gets, and the status that the process ends with. Only `run` gets
 //! a file that may be made and written.

@@ -1,22 +1,15 @@
-use Rattle.std.proofs.Common.{◌*◌, ap, arith, length, ℕ}
+use Rattle.std.proofs.Common.{◌*◌, length, refl}
 use Rattle.mg_base.specs.Image.{page_at}
-use Rattle.mg_check_records.proofs.RecordLemmas.{marks_few, page_among, pages_begin, pages_go_on}
+use Rattle.mg_check_records.specs.Marks.{most_slots}
+use Rattle.mg_check_records.proofs.RecordLemmas.{page_among, pages_begin, pages_go_on}
 use Rattle.mg_image.specs.Records.{cells_of}
 use Rattle.mg_check_records.proofs.records.walk_table.Goals as goal
-
-pub overflow_mul-count : goal.overflow_mul-count
-overflow_mul-count c = omega (
-  arith,
-  marks_few c.args.size (page_at c.args.size c.args.pages.now) c.args.table.now.pointer.0
-      c.args.data_pages.now c.most_slots.result c.requires.tested c.most_slots.type_inv,
-)
 
 pub loop-n-init : goal.loop-n-init
 loop-n-init c = pages_begin (cells_of (page_at c.args.size c.args.pages.now))
     (page_at c.args.size c.args.pages.now) c.args.table.now c.args.data_pages.now c.args.size
-    (length c.args.data_pages.now * c.most_slots.result) c.in_ok-marks.marks
-    c.new-found.result.items c.in_ok-marks.ensures c.new-found.ensures.items
-    (ap (λ (m : ℕ). length c.args.data_pages.now * m) c.most_slots.ensures)
+    (length c.args.data_pages.now * most_slots c.args.size) c.in_ok-marks.marks
+    c.new-found.result.items c.in_ok-marks.ensures.clear c.new-found.ensures.items refl
 
 pub walk_page-requires-clause-placed : goal.walk_page-requires-clause-placed
 walk_page-requires-clause-placed c = page_among (cells_of (page_at c.args.size c.args.pages.now))

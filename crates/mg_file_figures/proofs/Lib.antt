@@ -1,0 +1,6 @@
+pub mod NameLemmas
+pub mod ShownLemmas
+pub mod RowsLemmas
+pub mod TableLemmas
+pub mod DamageLemmas
+pub mod StatingLemmas

@@ -1,0 +1,23 @@
+use Rattle.std.proofs.Common.{List, ap, length, refl, sym, ◌∙◌}
+use Rattle.mg_base.specs.declared.numbers.RecId.{RecId}
+use Rattle.mg_file_figures.proofs.TableLemmas.{figures_told, records_found}
+use Rattle.mg_file_figures.proofs.table.counted.Goals as goal
+
+pub returns-in-Some : goal.returns-in-Some
+returns-in-Some c = records_found c.args.size c.args.pages.now c.args.holder c.args.table.now
+    c.args.data_pages.now c.in_ok-walk.walk.marks c.in_ok-walk.walk.found.items c.in-Some.finding
+    c.requires.none c.requires.are c.in_ok-walk.ensures.walked c.in_ok-walk.ensures.marks
+    (c.in-Some.ensures.0, sym c.as_slice.ensures.value ∙ c.in-Some.ensures.1)
+
+pub returns : goal.returns
+returns c = figures_told c.args.size c.args.pages.now c.args.holder c.args.table.now
+    c.args.data_pages.now c.in_ok-walk.walk.marks c.in_ok-walk.walk.found.items
+    (record {
+      name = c.args.table.now.name;
+      records = c.len-record_count.result;
+      versions = c.count-version_count.result;
+      pages = c.len-page_count.result;
+    }) c.requires.none c.requires.are c.in_ok-walk.ensures.walked c.in_ok-walk.ensures.marks
+    (sym c.as_slice.ensures.value ∙ c.in_default.ensures) refl
+    (c.len-record_count.ensures ∙ ap (λ (ps : List RecId). length ps) c.in_ok-records.ensures.records)
+    c.count-version_count.ensures c.len-page_count.ensures

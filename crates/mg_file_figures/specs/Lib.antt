@@ -1,0 +1,3 @@
+pub mod CatalogRows
+pub mod Tables
+pub mod Stating
