@@ -4,13 +4,18 @@ use Rattle.std.specs.Prelude.{MatchResult, is_some}
 use Rattle.mg_base.specs.Disk.{Meaning}
 use Rattle.mg_base.specs.Image.{Image}
 use Rattle.mg_base.specs.declared.geometry.Geometry.{Geometry}
+use Rattle.mg_base.specs.declared.transaction.TxState.{TxState}
 use Rattle.mg_heap.specs.Reading.{ReadsData}
 use Rattle.mg_image.specs.Form.{Pages}
 use Rattle.mg_model.specs.declared.refusal.Refusal.{Refusal}
+use Rattle.mg_model.specs.declared.table.Table.{Table}
 use Rattle.mg_pool.specs.Fault.{StaysOnline, TellsFault}
 use Rattle.mg_pool.specs.Pool.{IsPool, shown}
 use Rattle.mg_pool.specs.declared.pool.Pool.{Pool}
+use Rattle.mg_row_writes.specs.Finding.{IsFoundAt, IsObstacleAt}
+use Rattle.mg_row_writes.specs.declared.finding.ObstacleAt.{ObstacleAt}
 use Rattle.mg_seek.specs.declared.views.Obstacle.{Obstacle}
+use Rattle.mg_snap.specs.Live.{State as Bases}
 use Rattle.mg_space.specs.Taking.{IsGeometry}
 use Rattle.mg_space.specs.View.{KeepsStore, Tells, pool_answer}
 use Rattle.mg_space.specs.declared.fault.SpaceFault.{SpaceFault}
@@ -139,6 +144,26 @@ passed_by {D} m old new store t wait is why found (Ok x) keeps online told passe
     now = ap (λ (c : Core D). c.store) passed.0
 passed_by m old new store t wait is why found (Err refusal) keeps online told hinders =
     hindered (record old { store = store }) found (record { keeps = keeps; online = online; same = refl }) told hinders
+
+-- so it was, where something was remembered since that no clause tells of
+pub passed_noting : {D : Type 0} (m : Meaning D) (old noted new : Core D) (store : Pool D FireLinks) (t : ℕ)
+    (wait : Bool) (is : Pages → Option Obstacle → Type 0) (why : Pool D FireLinks → Pages → SpaceFault → Type 0)
+    (found : Option Obstacle) (result : Result (Unit {0}) Refusal) → KeepsStore m old.store store
+    → StaysOnline m old.store store
+    → ((image : Image) → Tells m old.store.disk image → is (shown old.store.dirty image) found)
+    → noted ≡ record old { store = store }
+    → MatchResult result (λ _. (new ≡ noted) × IsPassed (edges_in noted.waits) t wait found)
+    (HindersBy noted new t wait found)
+    → MatchResult result (λ _. Passes m old new t wait is) (Stops m old new t wait is why)
+passed_noting {D} m old noted new store t wait is why found result keeps online told same passed =
+    passed_by m old new store t wait is why found result keeps online told (subst (λ (c : Core D). MatchResult result
+    (λ _. (new ≡ c) × IsPassed (edges_in c.waits) t wait found) (HindersBy c new t wait found)) same passed)
+
+-- an obstacle that was found with the record that speaks for its key
+pub obstacle_found : {state : ℕ → TxState} {live : Bases} {t : ℕ} {view : Pages} {table : Table} {key : Value}
+    (found : ObstacleAt) → IsFoundAt state live t view table key found
+    → IsObstacleAt state live t view table key found.obstacle
+obstacle_found found is = record { speaks = found.rec; spoken = is.spoken; in_way = is.in_way }
 
 -- a table's obstacle is met by a cause of its own beside
 pub at_table : (A : Refusal → Type 0) (P : Type 0) (Q : Refusal → Type 0) (result : Result (Unit {0}) Refusal)

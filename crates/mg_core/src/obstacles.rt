@@ -7,29 +7,30 @@ ghost use Rattle.mg_core.specs.Obstacles.{HindersBy, IsPassed, PassesRecord, Pas
 
 use crate::parts::Core;
 use crate::states::StatesOf;
-use mg_base::{Disk, RecId, TxNo};
-use mg_model::Refusal;
+use mg_base::{Disk, PageNo, RecId, TxNo};
+use mg_model::{Refusal, Table};
 use mg_row_writes::{obstacle_at, obstacle_of_record, table_key};
 use mg_seek::Obstacle;
-use mg_value::Name;
 use mg_waits::Verdict;
 
 impl<D: Disk> Core<D> {
-    /// Goes on where nobody is in the way of a write to a table by its row of the catalog.
+    /// Goes on where nobody is in the way of a write to a table by its row of the catalog. That is looked for where it
+    /// was last found; only where it does not stand there, the rows of the catalog are gone through.
     ///
     /// # Errors
     ///
     /// What is told of the one who is; `Memory`; or what the reading is refused for.
-    pub fn pass_table(&mut self, t: TxNo, wait: bool, name: &Name) -> Result<(), Refusal>
+    pub fn pass_table(&mut self, t: TxNo, wait: bool, table: &Table) -> Result<(), Refusal>
         requires core { IsCore D.meaning self.old }
         ensures core { IsCore D.meaning self.new }
-        ensures passes { MatchResult result (λ _. PassesTable D.meaning self.old self.new t wait name.now)
-            (StopsAtTable D.meaning self.old self.new t wait name.now) }
+        ensures passes { MatchResult result (λ _. PassesTable D.meaning self.old self.new t wait table.now.name)
+            (StopsAtTable D.meaning self.old self.new t wait table.now.name) }
     {
-        let key = match table_key(self.store.alloc(), name) {
+        let key = match table_key(self.store.alloc(), &table.name) {
             Ok(key) => key,
             Err(_) => return Err(Refusal::Memory),
         };
+        let place = self.directories.row_of_table(table.pointer);
         let states = StatesOf::new(&self.list);
         match obstacle_at(
             &mut self.store,
@@ -38,10 +39,24 @@ impl<D: Disk> Core<D> {
             &states,
             &self.live,
             t,
-            None,
+            place,
         ) {
-            Ok(found) => self.pass(t, wait, found),
+            Ok(found) => {
+                self.remember_row(table.pointer, found.rec);
+                self.pass(t, wait, found.obstacle)
+            }
             Err(fault) => Err(self.refuse(fault)),
+        }
+    }
+
+    /// Remembers where the row of a table in the catalog was found, if it was.
+    fn remember_row(&mut self, first: PageNo, rec: Option<RecId>)
+        requires core { IsCore D.meaning self.old }
+        ensures core { IsCore D.meaning self.new }
+        ensures same { self.new ≡ self.old }
+    {
+        if let Some(rec) = rec {
+            self.directories.remember_row(first, rec);
         }
     }
 

@@ -50,7 +50,7 @@ impl<D: Disk> Core<D> {
             Err(refusal) => return Err(refusal),
         }
         let wait = self.writer(t)?;
-        self.pass_table(t, wait, &table.name)?;
+        self.pass_table(t, wait, table)?;
         let key = self.key_for(table, write)?;
         let rec = self.find_row(t, table, &key, write)?;
         self.pass_record(t, wait, rec)?;

@@ -5,6 +5,7 @@ ghost use Rattle.mg_directory.specs.Bounds.{IsNowhere, IsPlaceOf, IsTooLarge, Le
 ghost use Rattle.mg_directory.specs.Candidates.{Drops, IsStarted, KeepsOrDrops, MarksFor, NotesOrDrops, at_key, by_table, may_be_made, notes_in, under};
 
 use crate::directory::Directory;
+use crate::remembered::Remembered;
 use crate::{MOST_NOTED, MOST_TABLES};
 use mg_base::{Memory, PageNo, RecId};
 use std::alloc::Global;
@@ -19,6 +20,8 @@ pub struct Directories {
     tables: Vec<Directory>,
     /// The first pointer pages of tables that have too many records.
     too_large: Vec<u32>,
+    /// Where the rows of tables in the catalog were last found.
+    rows: Remembered,
 }
 
 impl Model for Directories {
@@ -46,6 +49,7 @@ impl Directories {
             most,
             tables: Vec::new(alloc),
             too_large: Vec::new(alloc),
+            rows: Remembered::new(alloc),
         }
     }
 
@@ -144,6 +148,19 @@ impl Directories {
         }
         make_place(&mut self.tables);
         let _kept = self.tables.push(dir);
+    }
+
+    /// Where the row of a table in the catalog was last found, if that is remembered. It may be there no more: who takes
+    /// the place looks there.
+    pub fn row_of_table(&self, first: PageNo) -> Option<RecId> {
+        self.rows.get(first.0)
+    }
+
+    /// Remembers where the row of a table in the catalog was found, if there is memory for it.
+    pub fn remember_row(&mut self, first: PageNo, rec: RecId)
+        ensures { self.new ≡ self.old }
+    {
+        self.rows.put(first.0, rec);
     }
 
     /// Drops the directory of a table, if it has one.

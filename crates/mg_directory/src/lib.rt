@@ -8,6 +8,9 @@
 //! bytes and the link to the next one, 16 bytes, and 4 bytes for each head of a chain. So a
 //! candidate that is none costs a look at the record, and is never a wrong answer.
 //!
+//! Beside them they remember where the row of a table in the catalog was last found, which no contract sees: it is no
+//! promise, but a place to look first.
+//!
 //! Nothing is ever taken out of a directory but the whole of it: whoever asks looks at each
 //! candidate. What can't be noted, for want of memory or since there are too many, drops the
 //! table's directory. So each call that changes what it has done is done, or there is none.
@@ -22,6 +25,7 @@ mod directories;
 mod directory;
 mod hash;
 mod node;
+mod remembered;
 
 pub use directories::Directories;
 pub use directory::{Directory, NoteFault};

@@ -1,10 +1,12 @@
 -- What is read over a fresh batch, and after pages were only read.
-use Rattle.std.proofs.Common.{◌≡◌, ◌==◌, ℕ, Bool, true, false, List, [], Option, Some, Result, Ok, Err, subst, sym}
+use Rattle.std.proofs.Common.{◌≡◌, ◌==◌, ℕ, Bool, true, false, List, [], Option, None, Some, Result, Ok, Err, inl, inr, refl, subst, sym}
 use Rattle.std.specs.Prelude.{IsErr, IsErrAnd, MatchResult, unwrap_or}
 use Rattle.mg_base.specs.Disk.{Meaning}
 use Rattle.mg_base.specs.Image.{Image}
+use Rattle.mg_base.specs.declared.damage.Damaged.{Damaged}
 use Rattle.mg_base.specs.declared.numbers.RecId.{RecId}
 use Rattle.mg_base.specs.declared.transaction.TxState.{TxState}
+use Rattle.mg_heap.specs.Table.{IsTable, RefusesTable}
 use Rattle.mg_image.specs.Form.{Pages}
 use Rattle.mg_model.specs.declared.table.Table.{Table}
 use Rattle.mg_pool.specs.Batch.{Changed, content_in}
@@ -19,17 +21,18 @@ use Rattle.mg_space.specs.declared.fault.SpaceFault.{SpaceFault}
 use Rattle.mg_space.specs.declared.fault.SpaceFault.TheVariants as faults
 use Rattle.mg_value.specs.declared.value.Value.{Value}
 use Rattle.mg_chain.specs.Refusals.{RefusesChain}
-use Rattle.mg_seek.specs.Candidates.{AreEnough}
+use Rattle.mg_seek.specs.CandidateLaws.{its_record}
+use Rattle.mg_seek.specs.Candidates.{AreEnough, FoundAmong, RefusesCandidate, RefusesCandidates}
 use Rattle.mg_seek.specs.Refusals.{RefusesRecord, bad_body, bad_chain}
 use Rattle.mg_seek.specs.Rows.{RefusesRowOf}
-use Rattle.mg_seek.specs.Speaking.{IsSpeaker}
+use Rattle.mg_seek.specs.Speaking.{IsTableDamage, RefusesTableRows, bad_among, no_walk}
+use Rattle.mg_seek.specs.TableRecords.{AreTableRecords, records_in}
 use Rattle.mg_seek.specs.Versions.{IsFirst, wants}
 use Rattle.mg_seek.specs.declared.walk.Placed.{Placed}
-use Rattle.mg_seek.specs.declared.views.Obstacle.{Obstacle}
 use Rattle.mg_seek.specs.declared.whose.Wanted.TheVariants.{Any}
 use Rattle.mg_row_writes.specs.Befores.{IsBeforeBy, IsBeforeIn, IsBeforeOf, OwnBefore, before_other}
 use Rattle.mg_row_writes.specs.declared.before.Before.{Before}
-use Rattle.mg_row_writes.specs.Finding.{IsInWay, IsObstacleAt, MayTell, RefusesObstacleAt, RefusesWay, way_unread}
+use Rattle.mg_row_writes.specs.Finding.{MayTell, SpeaksThere}
 
 -- a fault that a call met is handed on
 pub handed_on : {T : Type 0} (result : Result T SpaceFault) (fault : SpaceFault)
@@ -65,16 +68,54 @@ pub as_before : {D L : Type 0} (m : Meaning D) (a b : Pool D L) (image : Image) 
 as_before m a b image P kept tells later = subst (λ (d : DirtyPages). P (shown d image)) kept.dirty
     (later (tells_on m a b image kept tells))
 
--- the obstacle of a key is that of the record that speaks for it
-pub obstacle_comes : {D L : Type 0} (m : Meaning D) (store : Pool D L) (view : Pages)
-    (state : ℕ → TxState) (live : State) (t : ℕ) (table : Table) (key : Value) (rec : Option RecId)
-    (result : Result (Option Obstacle) SpaceFault) → IsSpeaker state live view table key rec
-    → MatchResult result (IsInWay state live t view rec) (RefusesWay m store view rec)
-    → MatchResult result (IsObstacleAt state live t view table key)
-    (RefusesObstacleAt m store view state live table key)
-obstacle_comes m store view state live t table key rec (Ok found) spoken way =
-    record { speaks = rec; spoken = spoken; in_way = way }
-obstacle_comes m store view state live t table key rec (Err fault) spoken way = way_unread rec spoken way
+-- a table whose chain of pointer pages breaks is not read
+pub unwalked : {D L : Type 0} (m : Meaning D) (store : Pool D L) (pages : List BatchPage) (view : Pages)
+    (takes : ℕ → Bool) (table : Table) (fault : SpaceFault) → RefusesTable m store pages view table.pointer.0 fault
+    → RefusesTableRows m store pages view takes table fault
+unwalked m store pages view takes table (faults.Full most) refused = refused
+unwalked m store pages view takes table (faults.Damaged it) refused = no_walk it (inl refused)
+unwalked m store pages view takes table (faults.Pool fault) refused = tt
+
+-- one candidate that speaks for the key is enough, where the table's pointer pages are as wanted
+module _ (state : ℕ → TxState) (live : State) (view : Pages) (table : Table) (key : Value)
+    (candidates : List RecId) (pointers data_pages : List ℕ)
+    (walked : IsTable view table.pointer.0 pointers data_pages) where
+  its_records : AreTableRecords view table.pointer.0 (records_in view data_pages)
+  its_records = record { pointers = pointers; data_pages = data_pages; table = walked; are = refl }
+
+  module _ {D L : Type 0} (m : Meaning D) (store : Pool D L) (takes : ℕ → Bool) where
+    damaged_in_place : (it : Damaged) (rec : RecId)
+        → RefusesCandidate m store [] view takes table rec (faults.Damaged it)
+        → IsTableDamage m store [] view takes table it
+    damaged_in_place it rec (inl (at, broken)) = no_walk it (inl (record {
+      pointers = broken.pointers;
+      page = broken.page;
+      leads = broken.leads;
+      some = broken.some;
+      refused = broken.refused;
+    }))
+    damaged_in_place it rec (inr (its, damaged)) = bad_among (records_in view data_pages) it its_records (record {
+      rec = rec;
+      among = its_record view table.pointer.0 (records_in view data_pages) its_records rec its;
+      damaged = damaged;
+    })
+
+    pub told_in_place : (result : Result (Option RecId) SpaceFault)
+        → MatchResult result (FoundAmong state live view table key candidates)
+        (RefusesCandidates m store [] view takes table candidates)
+        → MatchResult result (SpeaksThere state live view table key) (RefusesTableRows m store [] view takes table)
+    told_in_place (Ok None) none = tt
+    told_in_place (Ok (Some rec)) found = record {
+      records = records_in view data_pages;
+      of_table = its_records;
+      speaks = (
+        its_record view table.pointer.0 (records_in view data_pages) its_records rec found.1.its,
+        found.1.speaks,
+      );
+    }
+    told_in_place (Err (faults.Full most)) refused = refused
+    told_in_place (Err (faults.Damaged it)) refused = damaged_in_place it refused.rec refused.refused
+    told_in_place (Err (faults.Pool fault)) refused = tt
 
 -- what is seen over a fresh batch
 pub empty_seen : {D L : Type 0} (store : Pool D L) (image : Image) (batch : Changed)

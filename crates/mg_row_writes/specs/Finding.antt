@@ -18,6 +18,7 @@ use Rattle.mg_seek.specs.Versions.{wants}
 use Rattle.mg_seek.specs.Views.{IsObstacle, IsRowSeen}
 use Rattle.mg_seek.specs.declared.views.Obstacle.{Obstacle}
 use Rattle.mg_seek.specs.declared.whose.Wanted.TheVariants.{Living, SeenBy}
+use Rattle.mg_row_writes.specs.declared.finding.ObstacleAt.{ObstacleAt}
 use Rattle.mg_row_writes.specs.declared.finding.RowAt.{RowAt}
 
 -- ---- candidates
@@ -45,6 +46,17 @@ pub record IsObstacleAt (state : ℕ → TxState) (live : State) (t : ℕ) (view
   pub speaks : Option RecId
   pub spoken : IsSpeaker state live view table key speaks
   pub in_way : IsInWay state live t view speaks found
+
+-- So it is found, with that record.
+pub record IsFoundAt (state : ℕ → TxState) (live : State) (t : ℕ) (view : Pages) (table : Table) (key : Value)
+    (found : ObstacleAt) : Type 0 where
+  pub spoken : IsSpeaker state live view table key found.rec
+  pub in_way : IsInWay state live t view found.rec found.obstacle
+
+-- a record that was found speaks for the key
+abbrev pub SpeaksThere : (ℕ → TxState) → State → Pages → Table → Value → Option RecId → Type 0
+SpeaksThere state live view table key None = Unit {0}
+SpeaksThere state live view table key (Some rec) = IsSpeaker state live view table key (Some rec)
 
 -- Why the obstacle of a key is not found, but for faults of the cache.
 pub data RefusesObstacleAt {D L : Type 0} (m : Meaning D) (store : Pool D L) (view : Pages)

@@ -25,6 +25,6 @@ mod storing;
 pub use before::{Before, Way, before_at};
 pub use changing::{make_first, push_over, replace_newest, take_newest_out, take_place};
 pub use entering::{enter_row, keys_may_be_laid};
-pub use finding::{RowAt, obstacle_at, obstacle_of_record, row_at};
+pub use finding::{ObstacleAt, RowAt, obstacle_at, obstacle_of_record, row_at};
 pub use laying::{enter_own, lay};
 pub use storing::{may_be_stored, stored_version, table_key, written_key};
