@@ -4,3 +4,4 @@ pub mod GrowingLemmas
 pub mod InsertingLemmas
 pub mod WrittenLemmas
 pub mod ExitLemmas
+pub mod HoldingLemmas

@@ -1,11 +1,12 @@
 //! An index page that a tree is asked for: read, tested, and on the level where it is wanted.
 
-ghost use Rattle.std.specs.Prelude.{◌≡◌, ◌≤◌, ◌↔◌, IfOk, IsOk, MatchResult, length, OnOk, ◌<◌};
+ghost use Rattle.std.specs.Prelude.{◌≡◌, ◌≤◌, ◌↔◌, IfErr, IfOk, IsOk, IsSome, MatchResult, length, OnOk, ◌<◌};
 ghost use Rattle.mg_base.specs.Checks.{PassesAll};
 ghost use Rattle.mg_base.specs.Image.{Image};
 ghost use Rattle.mg_node.specs.NodePage.{IsNodePage, level_in, node_checks};
 ghost use Rattle.mg_node.specs.NodeTests.{HasEnough};
 ghost use Rattle.mg_pool.specs.Pool.{IsPool};
+ghost use Rattle.mg_space.specs.Lawful.{readable};
 ghost use Rattle.mg_space.specs.Taking.{IsGeometry};
 ghost use Rattle.mg_space.specs.View.{AreWhole, Tells, viewed};
 ghost use Rattle.mg_btree.specs.Reading.{IsNodeFrom, IsReadNode, Reads, RefusesBytes, RefusesContent, RefusesNode};
@@ -13,7 +14,7 @@ ghost use Rattle.mg_btree.specs.Reading.{IsNodeFrom, IsReadNode, Reads, RefusesB
 use mg_base::{Bytes, Damaged, Disk, Field, PageNo, check_field};
 use mg_node::{Node, check_node, check_node_common, count, is_inner, level_of, read_node};
 use mg_pool::Batch;
-use mg_space::{Found, SpaceFault, Store, find_page};
+use mg_space::{Found, SpaceFault, Store, find_page, hold};
 use std::alloc::Global;
 
 /// An index page that was read.
@@ -25,16 +26,32 @@ pub(crate) struct ReadNode {
     pub node: Node,
 }
 
-/// The bytes of a page as one sees them who fills a batch.
+/// Makes a page readable as one sees it who fills a batch: `lent` lends its bytes then. Nothing is copied.
 ///
 /// # Errors
 ///
 /// `Damaged` at `Presence` where the page is not there; else the cache's.
-pub(crate) fn bytes_of<D: Disk>(
+pub(crate) fn hold_page<D: Disk>(
     store: &mut Store<D>,
     batch: &Batch,
     page: PageNo,
-) -> Result<Bytes, SpaceFault>
+) -> Result<(), SpaceFault>
+    requires pool { IsPool D.meaning store.old }
+
+    ensures reads { Reads D.meaning store.old store.new result }
+    ensures held { OnOk result (IsSome (readable store.new batch.now.pages page.0)) }
+    ensures seen { (image : Image) → Tells D.meaning store.old.disk image → IfErr result
+        (RefusesBytes store.old.geometry.size (viewed store.old image batch.now page.0)) }
+{
+    hold(store, batch, page)
+}
+
+/// A copy of the bytes of a page as one sees them who fills a batch, for one who keeps them.
+///
+/// # Errors
+///
+/// As `hold_page`; else `Memory`.
+fn bytes_of<D: Disk>(store: &mut Store<D>, batch: &Batch, page: PageNo) -> Result<Bytes, SpaceFault>
     requires pool { IsPool D.meaning store.old }
     requires whole { AreWhole store.old.geometry batch.now.pages }
 

@@ -9,11 +9,11 @@ ghost use Rattle.mg_space.specs.View.{AreWhole, Tells, viewed};
 ghost use Rattle.mg_btree.specs.Reading.{Reads};
 ghost use Rattle.mg_btree.specs.Roots.{IsRootOf};
 
-use crate::node::bytes_of;
+use crate::node::hold_page;
 use mg_base::{Disk, OWNER_AT, PageNo, get_u32};
 use mg_node::level_of;
 use mg_pool::Batch;
-use mg_space::{SpaceFault, Store};
+use mg_space::{SpaceFault, Store, lent};
 
 /// What a root's page says of its tree.
 #[derive(Clone, Copy)]
@@ -44,10 +44,11 @@ pub(crate) fn root_of<D: Disk>(
         → IsTree store.old.geometry.size (viewed store.old image batch.now) owner page.0 levels
         → IsRootOf (viewed store.old image batch.now) owner page.0 result }
 {
-    let bytes = bytes_of(store, batch, page)?;
+    hold_page(store, batch, page)?;
+    let bytes = lent(store, batch, page);
     Ok(Root {
         page,
-        owner: get_u32(bytes.as_slice(), OWNER_AT),
-        level: level_of(bytes.as_slice()),
+        owner: get_u32(bytes, OWNER_AT),
+        level: level_of(bytes),
     })
 }

@@ -12,13 +12,13 @@ ghost use Rattle.mg_btree.specs.Landings.{ComesBefore, LandsAt};
 ghost use Rattle.mg_btree.specs.Reading.{Reads};
 ghost use Rattle.mg_btree.specs.Searching.{BeginsAt, ComesTo, IsReached, PassesTo};
 
-use crate::node::{ReadNode, bytes_of, check_above, node_on};
+use crate::node::{ReadNode, check_above, hold_page, node_on};
 use crate::on_page::{child_on, is_under};
 use crate::root::root_of;
 use mg_base::{Damaged, Disk, Field, GREATEST_LIMIT, PageNo};
 use mg_node::{Entry, is_below, is_up_to, right_of};
 use mg_pool::Batch;
-use mg_space::{SpaceFault, Store};
+use mg_space::{SpaceFault, Store, lent};
 
 /// Tests that an entry does not come before the low fence of a page.
 fn check_from(low: &Option<Entry>, page: PageNo, e: &Entry) -> Result<(), Damaged>
@@ -113,7 +113,8 @@ pub(crate) fn circle(page: PageNo) -> Damaged {
 }
 
 /// Goes to the right on a level above the leaves, as `land`, and gives the child to go down by. Of the
-/// pages on the way no more is tested than their common part and their level: they are not changed.
+/// pages on the way no more is tested than their common part and their level, and nothing is copied: they
+/// are not changed.
 ///
 /// # Errors
 ///
@@ -140,12 +141,13 @@ fn pass<D: Disk>(
 {
     let mut at = page;
     for _ in 0..GREATEST_LIMIT {
-        let bytes = bytes_of(store, batch, at)?;
-        check_above(bytes.as_slice(), at, owner, level)?;
-        if is_under(bytes.as_slice(), e) {
-            return Ok(PageNo(child_on(bytes.as_slice(), e)));
+        hold_page(store, batch, at)?;
+        let bytes = lent(store, batch, at);
+        check_above(bytes, at, owner, level)?;
+        if is_under(bytes, e) {
+            return Ok(PageNo(child_on(bytes, e)));
         }
-        at = right_of(bytes.as_slice());
+        at = right_of(bytes);
     }
     Err(SpaceFault::Damaged(circle(at)))
 }

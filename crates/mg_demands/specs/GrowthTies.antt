@@ -336,9 +336,9 @@ module _ {D L : Type 0} (store : Pool D L) (image : Image) (old new : Changed) (
   room_pays (inl (same, first)) = subst (λ (b : Changed). Pays width before_view (viewed store image b) orders settled
       on_disk wanted (listed [])) (sym same) (same_pays width before_view orders settled on_disk wanted was)
   room_pays (inr (none, inl (room, last))) = listed_pays store image old new owner gives.pointers gives.data_pages orders settled
-      on_disk wanted lawful was head its have gives.it.page.0 gives.it.bytes.items last
+      on_disk wanted lawful was head its have gives.it.page.0 gives.it.bytes last
   room_pays (inr (none, inr (full, (p, made)))) = chained_pays store image old new owner gives.pointers gives.data_pages orders
-      settled on_disk wanted lawful was head its have p gives.it.page.0 gives.it.bytes.items full made
+      settled on_disk wanted lawful was head its have p gives.it.page.0 gives.it.bytes full made
 
   -- the page that is given is wanted as a data page then
   pub room_data : (found : FindsOrGrows store image old new owner gives.pointers gives.data_pages need gives.it)
@@ -405,7 +405,7 @@ module _ {D L : Type 0} (store : Pool D L) (image : Image) (old new : Changed) (
       ap (λ (pages : Pages). pages m) (viewed_same store image last.listed new last.orders.same_pages)
       ∙ (viewed_else store image last.made last.listed (slice_index gives.pointers (length gives.pointers - 1)) last.page last.puts m
       (off_last m of)
-      ∙ (viewed_else store image last.taken last.made gives.it.page.0 gives.it.bytes.items last.makes.puts m
+      ∙ (viewed_else store image last.taken last.made gives.it.page.0 gives.it.bytes last.makes.puts m
       (λ same. both_ways _ last.takes.free.unused (subst (λ (k : ℕ). is_used width before_view k ≡ true) same mine.used))
       ∙ last.takes.others m (λ same. mine.off_inventory (region_of width gives.it.page.0) (sym same))))
   room_else (inr (none, inr (full, (p, made)))) m of =
@@ -417,7 +417,7 @@ module _ {D L : Type 0} (store : Pool D L) (image : Image) (old new : Changed) (
       (off_last m of)
       ∙ (viewed_else store image made.made made.begun p made.page made.puts m
       (λ same. both_ways _ made.takes_pointer.free.unused (subst (λ (k : ℕ). is_used width before_view k ≡ true) same mine.used))
-      ∙ (viewed_else store image made.taken made.made gives.it.page.0 gives.it.bytes.items made.makes.puts m
+      ∙ (viewed_else store image made.taken made.made gives.it.page.0 gives.it.bytes made.makes.puts m
       (λ same. both_ways _ made.takes.free.unused
       (subst (λ (k : ℕ). is_used width (viewed store image made.with_bit) k ≡ true) same used))
       ∙ (made.takes.others m (λ same. mine.off_inventory (region_of width gives.it.page.0) (sym same))
@@ -433,18 +433,18 @@ module _ {D L : Type 0} (store : Pool D L) (image : Image) (old new : Changed) (
 
   abbrev Grown : Type 0
   Grown = GrowsTable store.geometry store image old new owner (length gives.data_pages) (length gives.pointers - 1)
-      last_pointer (before_view last_pointer) got gives.it.bytes.items
+      last_pointer (before_view last_pointer) got gives.it.bytes
 
   last_used : is_used width before_view last_pointer ≡ true
   last_used = (pointer_taken width before_view wanted was last_pointer owner (length gives.pointers - 1) head its.last).used
 
   -- it is as it was made
-  got_here : Grown → after_view got ≡ gives.it.bytes.items
+  got_here : Grown → after_view got ≡ gives.it.bytes
   got_here (inl (room, last)) = ap (λ (pages : Pages). pages got)
       (viewed_same store image last.listed new last.orders.same_pages)
       ∙ (viewed_else store image last.made last.listed last_pointer last.page last.puts got
       (λ same. both_ways _ last.takes.free.unused (subst (λ (k : ℕ). is_used width before_view k ≡ true) (sym same) last_used))
-      ∙ viewed_here store image last.taken last.made got gives.it.bytes.items last.makes.puts)
+      ∙ viewed_here store image last.taken last.made got gives.it.bytes last.makes.puts)
   got_here (inr (full, (p, made))) = ap (λ (pages : Pages). pages got)
       (viewed_same store image made.linked new made.orders.same_pages)
       ∙ (viewed_else store image made.begun made.linked last_pointer made.link made.puts_link got
@@ -453,17 +453,17 @@ module _ {D L : Type 0} (store : Pool D L) (image : Image) (old new : Changed) (
       ∙ (viewed_else store image made.made made.begun p made.page made.puts got
       (λ same. unused p made (subst (λ (k : ℕ). is_used width (viewed store image made.with_bit) k ≡ true) (sym same)
       (takes_bit store.geometry before_view (viewed store image made.with_bit) p lawful made.takes_pointer)))
-      ∙ viewed_here store image made.taken made.made got gives.it.bytes.items made.makes.puts))
+      ∙ viewed_here store image made.taken made.made got gives.it.bytes made.makes.puts))
     where
       unused : (p : ℕ) (made : ListsInNew store.geometry store image old new owner (length gives.data_pages)
-          (length gives.pointers - 1 + 1) last_pointer p got (before_view last_pointer) gives.it.bytes.items)
+          (length gives.pointers - 1 + 1) last_pointer p got (before_view last_pointer) gives.it.bytes)
           → is_used width (viewed store image made.with_bit) got ≡ true → ⊥
       unused p made is = both_ways _ made.takes.free.unused is
 
   got_none : (grown : Grown) (s : ℕ) → cell_of (after_view got) s ≡ None
   got_none grown s = ap (λ (page : List ℕ). cell_of page s) (got_here grown) ∙ none grown
     where
-      none : Grown → cell_of gives.it.bytes.items s ≡ None
+      none : Grown → cell_of gives.it.bytes s ≡ None
       none (inl (room, last)) = last.makes.made.none s
       none (inr (full, (p, made))) = made.makes.made.none s
 

@@ -129,7 +129,7 @@ module _ {D L : Type 0} (store : Pool D L) (image : Image) (old new : Changed) (
 
   -- ---- the last pointer page lists a new data page
 
-  module _ (room : HasEntryRoom (view q)) (last : ListsInLast store.geometry store image old new owner (length gives.data_pages) q got (view q) gives.it.bytes.items) where
+  module _ (room : HasEntryRoom (view q)) (last : ListsInLast store.geometry store image old new owner (length gives.data_pages) q got (view q) gives.it.bytes) where
     listed_now : after q ≡ last.page
     listed_now = ap (λ (pages : Pages). pages q) (viewed_same store image last.listed new last.orders.same_pages)
         ∙ viewed_here store image last.made last.listed q last.page last.puts
@@ -137,7 +137,7 @@ module _ {D L : Type 0} (store : Pool D L) (image : Image) (old new : Changed) (
     listed_else : (m who k : ℕ) → IsIn wanted (want_of m POINTER who k) → m ≢ q → after m ≡ view m
     listed_else m who k h other = ap (λ (pages : Pages). pages m) (viewed_same store image last.listed new last.orders.same_pages)
         ∙ (viewed_else store image last.made last.listed q last.page last.puts m other
-        ∙ (viewed_else store image last.taken last.made got gives.it.bytes.items last.makes.puts m
+        ∙ (viewed_else store image last.taken last.made got gives.it.bytes last.makes.puts m
         (λ same. both_ways _ last.takes.free.unused (subst (λ (i : ℕ). is_used width view i ≡ true) same (in_use m who k h)))
         ∙ taking_else store.geometry view (viewed store image last.taken) got wanted lawful last.takes was orders settled
         on_disk m who k h))
@@ -180,7 +180,7 @@ module _ {D L : Type 0} (store : Pool D L) (image : Image) (old new : Changed) (
 
   -- ---- a new pointer page does
 
-  module _ (none : HasEntryRoom (view q) → ⊥) (p : ℕ) (made : ListsInNew store.geometry store image old new owner (length gives.data_pages) (at + 1) q p got (view q) gives.it.bytes.items) where
+  module _ (none : HasEntryRoom (view q) → ⊥) (p : ℕ) (made : ListsInNew store.geometry store image old new owner (length gives.data_pages) (at + 1) q p got (view q) gives.it.bytes) where
     bit_step : Pays width view (viewed store image made.with_bit) orders settled on_disk wanted (listed (bit_demand width p))
     bit_step = take_pays store.geometry view (viewed store image made.with_bit) p orders settled on_disk wanted lawful
         made.takes_pointer was
@@ -211,7 +211,7 @@ module _ {D L : Type 0} (store : Pool D L) (image : Image) (old new : Changed) (
     linked_else m who k h other = ap (λ (pages : Pages). pages m) (viewed_same store image made.linked new made.orders.same_pages)
         ∙ (viewed_else store image made.begun made.linked q made.link made.puts_link m other
         ∙ (viewed_else store image made.made made.begun p made.page made.puts m (off_p m (in_use m who k h))
-        ∙ (viewed_else store image made.taken made.made got gives.it.bytes.items made.makes.puts m (off_got m (in_use m who k h))
+        ∙ (viewed_else store image made.taken made.made got gives.it.bytes made.makes.puts m (off_got m (in_use m who k h))
         ∙ (taking_else store.geometry (viewed store image made.with_bit) (viewed store image made.taken) got
         (either wanted (listed (bit_demand width p))) lawful made.takes bit_step.wants orders settled on_disk m who k
         (in_one wanted (listed (bit_demand width p)) (want_of m POINTER who k) h)

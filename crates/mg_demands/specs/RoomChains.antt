@@ -59,7 +59,7 @@ module _ {D L : Type 0} (store : Pool D L) (image : Image) (old new : Changed) (
   got = gives.it.page.0
 
   abbrev bytes : List ℕ
-  bytes = gives.it.bytes.items
+  bytes = gives.it.bytes
 
   abbrev at : ℕ
   at = length gives.pointers - 1

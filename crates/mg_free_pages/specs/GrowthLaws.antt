@@ -132,7 +132,7 @@ module _ (keeps : TakingKeepsRegions) {D : Type 0} (store : Pool D FireLinks) (i
           (ordered old new (ap (λ (b : Changed). b.pages) there.0))
       on (inr grown) = grows old new owner (length gives.data_pages) (length gives.pointers - 1)
           (slice_index gives.pointers (length gives.pointers - 1))
-          (view old (slice_index gives.pointers (length gives.pointers - 1))) gives.it.page.0 gives.it.bytes.items
+          (view old (slice_index gives.pointers (length gives.pointers - 1))) gives.it.page.0 gives.it.bytes
           (λ regions. pointers_off (view old) owner 0 gives.pointers gives.table.tested regions
           (length gives.pointers - 1)) grown.1
 

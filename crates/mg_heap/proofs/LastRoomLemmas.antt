@@ -16,11 +16,10 @@ use Rattle.mg_space.specs.declared.fault.SpaceFault.{SpaceFault}
 use Rattle.mg_heap.specs.LastRoom.{FindsLast, GivesLast, HasFirst, IsLastPlace, IsPlaced, RefusesLast}
 use Rattle.mg_heap.specs.Places.{FindsPlace, HasCount}
 use Rattle.mg_heap.specs.PlacesLaws.{place_there}
-use Rattle.mg_heap.specs.Room.{GivesRoom, IsFirstWithRoom, RefusesRoom}
+use Rattle.mg_heap.specs.Room.{GivesRoom, RefusesRoom, found_in}
 use Rattle.mg_heap.specs.RoomLaws.{room_on}
 use Rattle.mg_heap.specs.Table.{IsTable, RefusesTable}
 use Rattle.mg_heap.specs.Walk.{RefusesTableData}
-use Rattle.mg_heap.specs.declared.growth.DataPage.{DataPage}
 use Rattle.mg_heap.specs.declared.room.LastPlace.{LastPlace}
 use Rattle.mg_heap.proofs.RoomLemmas.{room_refused_on}
 use Rattle.mg_heap.proofs.WalkLemmas.{page_broken}
@@ -67,10 +66,9 @@ last_broken m store batch pages owner found it fault is finds refused =
 
 -- the last page has room: it is looked at first
 pub last_first : (pages : Pages) (owner need : ℕ) (found : Option LastPlace) (it : LastPlace)
-    (given : DataPage) (read slice : List ℕ) (room : ℕ) → found ≡ Some it → FindsLast pages owner found
-    → given.page ≡ it.page → read ≡ pages it.page.0 → given.bytes.items ≡ read → slice ≡ read
-    → room ≡ room_of slice → need ≤ room → HasFirst pages owner need given
-last_first pages owner need found it given read slice room is finds here seen same sliced measured enough =
+    (read : List ℕ) (room : ℕ) → found ≡ Some it → FindsLast pages owner found → read ≡ pages it.page.0
+    → room ≡ room_of read → need ≤ room → HasFirst pages owner need it.page
+last_first pages owner need found it read room is finds seen measured enough =
     let last = found_last pages owner found it is finds in
     record {
       pointers = last.pointers;
@@ -79,29 +77,27 @@ last_first pages owner need found it given read slice room is finds here seen sa
       first = record {
         after = 0;
         inside = let end = last.last in omega (arith, end);
-        page_is = ap (λ (n : PageNo). n.0) here ∙ (sym last.listed ∙ ap (λ (i : ℕ). get_or last.data_pages i 0)
-            (let end = last.last in let e : it.at ≡ length last.data_pages - 1 = omega (arith, end) in e));
-        bytes_are = same ∙ (seen ∙ ap (λ (n : PageNo). pages n.0) (sym here));
-        room = subst (λ (n : PageNo). need ≤ room_of (pages n.0)) (sym here)
-            (subst (λ (b : List ℕ). need ≤ room_of b) (sliced ∙ seen)
-            (subst (λ (k : ℕ). need ≤ k) measured enough));
+        page_is = sym last.listed ∙ ap (λ (i : ℕ). get_or last.data_pages i 0)
+            (let end = last.last in let e : it.at ≡ length last.data_pages - 1 = omega (arith, end) in e);
+        bytes_are = refl;
+        room = subst (λ (b : List ℕ). need ≤ room_of b) seen (subst (λ (k : ℕ). need ≤ k) measured enough);
         earlier = λ k before. absurd (omega (arith, before));
       };
     }
 
 -- it is given
 pub last_given : {D L : Type 0} (store : Pool D L) (image : Image) (batch : Changed) (owner need : ℕ)
-    (last : Option DataPage) (it : DataPage) → last ≡ Some it
+    (last : Option PageNo) (page : PageNo) → last ≡ Some page
     → GivesLast (viewed store image batch) owner need last
-    → GivesRoom store image batch batch owner need it.page
-last_given store image batch owner need last it is gives =
-    let has : HasFirst (viewed store image batch) owner need it =
+    → GivesRoom store image batch batch owner need page
+last_given store image batch owner need last page is gives =
+    let has : HasFirst (viewed store image batch) owner need page =
     subst (GivesLast (viewed store image batch) owner need) is gives in
     record {
       pointers = has.pointers;
       data_pages = has.data_pages;
       table = has.table;
-      it = it;
+      it = found_in (viewed store image batch) page;
       page_is = refl;
       found = inl (refl, has.first);
     }

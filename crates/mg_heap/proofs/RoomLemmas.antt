@@ -1,5 +1,5 @@
 -- Lemmas of the search for a data page with room.
-use Rattle.std.proofs.Common.{[], ◌∷◌, zero, suc, ◌≡◌, ◌≢◌, ◌<◌, ◌≤◌, ◌+◌, ◌-◌, ◌∙◌, ◌⊎◌, inl, inr, ℕ, List, length, get_or, sym, ap, subst, arith, below_more, Result, Ok, Err}
+use Rattle.std.proofs.Common.{[], ◌∷◌, zero, suc, ◌≡◌, ◌≢◌, ◌<◌, ◌≤◌, ◌+◌, ◌-◌, ◌∙◌, ◌⊎◌, inl, inr, ℕ, List, length, get_or, sym, ap, subst, arith, below_more, Result, Ok, Err, Option, Some, refl}
 use Rattle.std.proofs.lemmas.Bool.{cases_eq, ne_eqb}
 use Rattle.mg_base.specs.Disk.{Meaning}
 use Rattle.std.specs.Prelude.{MatchResult}
@@ -13,11 +13,11 @@ use Rattle.mg_space.specs.View.{KeepsStore, viewed}
 use Rattle.mg_space.specs.ViewLaws.{viewed_on}
 use Rattle.mg_space.specs.declared.fault.SpaceFault.{SpaceFault}
 use Rattle.mg_heap.specs.Growth.{GrowsTable, RefusesGrowth}
-use Rattle.mg_heap.specs.Table.{RefusesPointerPage}
+use Rattle.mg_heap.specs.Table.{IsTable, RefusesPointerPage}
 use Rattle.mg_heap.specs.Walk.{RefusesWalkOf}
 use Rattle.mg_heap.proofs.GrowthLemmas.{refuses_on, two_on}
-use Rattle.mg_heap.specs.RoomLaws.{grows_on}
-use Rattle.mg_heap.specs.Room.{FindsOrGrows, IsFirstWithRoom, NoneHasRoom, RefusesRoomIn, looked_at}
+use Rattle.mg_heap.specs.RoomLaws.{finds_on, grows_on}
+use Rattle.mg_heap.specs.Room.{FindsRoom, GivesIn, GivesRoom, IsFirstWithRoom, NoneHasRoom, RefusesRoom, RefusesRoomIn, found_in, looked_at}
 use Rattle.mg_heap.specs.declared.growth.DataPage.{DataPage}
 
 -- each place is looked at
@@ -39,18 +39,17 @@ all_looked pages ds need none place inside = at (cases_eq (place + 1) (length ds
         second k = rw (ne_eqb (k + 1) 0 (omega arith)) (omega arith)
 
 -- a page with room was found
-pub found_first : (pages : Pages) (ds : List ℕ) (need k place : ℕ) (it : DataPage) → k < length ds
+pub found_first : (pages : Pages) (ds : List ℕ) (need k place : ℕ) (page : PageNo) → k < length ds
     → place ≡ looked_at k (length ds)
     → ((j : ℕ) → j < k → room_of (pages (get_or ds (looked_at j (length ds)) 0)) < need)
-    → (it.page.0 ≡ get_or ds place 0) × (it.bytes.items ≡ pages (get_or ds place 0))
-    × (need ≤ room_of (pages (get_or ds place 0)))
-    → IsFirstWithRoom pages ds need it
-found_first pages ds need k place it inside is none found = record {
+    → (page.0 ≡ get_or ds place 0) × (need ≤ room_of (pages (get_or ds place 0)))
+    → IsFirstWithRoom pages ds need (found_in pages page)
+found_first pages ds need k place page inside is none found = record {
   after = k;
   inside = inside;
   page_is = found.0 ∙ ap (λ (i : ℕ). get_or ds i 0) is;
-  bytes_are = found.1 ∙ ap pages (sym found.0);
-  room = subst (λ (n : ℕ). need ≤ room_of (pages n)) (sym found.0) found.2;
+  bytes_are = refl;
+  room = subst (λ (n : ℕ). need ≤ room_of (pages n)) (sym found.0) found.1;
   earlier = none;
 }
 
@@ -67,6 +66,20 @@ pub all_seen : (pages : Pages) (ds : List ℕ) (need k : ℕ) → length ds ≤ 
     → ((j : ℕ) → j < k → room_of (pages (get_or ds (looked_at j (length ds)) 0)) < need)
     → (j : ℕ) → j < length ds → room_of (pages (get_or ds (looked_at j (length ds)) 0)) < need
 all_seen pages ds need k past none j inside = none j (omega arith)
+
+-- it is given, and nothing is changed
+pub found_given : {D L : Type 0} (store : Pool D L) (image : Image) (batch : Changed) (owner : ℕ)
+    (ps ds : List ℕ) (need : ℕ) (found : Option PageNo) (page : PageNo) → found ≡ Some page
+    → FindsRoom (viewed store image batch) ds need found
+    → GivesIn store image batch batch owner ps ds need page
+found_given store image batch owner ps ds need found page is finds =
+    let first : IsFirstWithRoom (viewed store image batch) ds need (found_in (viewed store image batch) page) =
+    subst (FindsRoom (viewed store image batch) ds need) is finds in
+    record {
+      it = found_in (viewed store image batch) page;
+      page_is = refl;
+      found = inl (refl, first);
+    }
 
 -- ---- calls on a cache that has been read
 
@@ -85,26 +98,32 @@ module _ {D L : Type 0} (m : Meaning D) (a b : Pool D L) (image : Image) (kept :
   growth_refused_on store batch owner at q fault (inr (inr two)) =
       inr (inr (two_on m a b image kept batch fault two))
 
-  pub room_grown : (store : Pool D L) (old new : Changed) (owner place at : ℕ) (q : PageNo)
-      (ps ds : List ℕ) (need : ℕ) (result : Result DataPage SpaceFault) → place ≡ length ds
-      → at ≡ length ps - 1 → q.0 ≡ get_or ps (length ps - 1) 0
+  pub room_grown : (old new : Changed) (owner place at : ℕ) (q : PageNo) (ps ds : List ℕ) (need : ℕ)
+      (it : DataPage) → place ≡ length ds → at ≡ length ps - 1 → q.0 ≡ get_or ps (length ps - 1) 0
       → NoneHasRoom (viewed a image old) ds need
-      → MatchResult result (λ it. GrowsTable b.geometry b image old new owner place at q.0
-      (viewed b image old q.0) it.page.0 it.bytes.items) (RefusesGrowth m b store image old owner at q)
-      → MatchResult result (FindsOrGrows a image old new owner ps ds need)
-      (RefusesRoomIn m a store image old owner ps ds)
-  room_grown store old new owner place at q ps ds need (Ok it) place_is at_is q_is none grows = inr (
-    none,
-    subst (λ (k : ℕ). GrowsTable a.geometry a image old new owner (length ds) (length ps - 1) k
-        (viewed a image old k) it.page.0 it.bytes.items) q_is
-        (subst (λ (k : ℕ). GrowsTable a.geometry a image old new owner (length ds) k q.0
-        (viewed a image old q.0) it.page.0 it.bytes.items) at_is
-        (subst (λ (k : ℕ). GrowsTable a.geometry a image old new owner k at q.0
-        (viewed a image old q.0) it.page.0 it.bytes.items) place_is
-        (grows_on m a b kept image old new owner place at q.0 it.page.0 (viewed b image old q.0)
-        (viewed a image old q.0) it.bytes.items (seen_at old q.0) grows))),
-  )
-  room_grown store old new owner place at q ps ds need (Err fault) place_is at_is q_is none refused = inr (
+      → GrowsTable b.geometry b image old new owner place at q.0 (viewed b image old q.0) it.page.0
+      it.bytes.items → GivesIn a image old new owner ps ds need it.page
+  room_grown old new owner place at q ps ds need it place_is at_is q_is none grows = record {
+    it = record { page = it.page; bytes = it.bytes.items };
+    page_is = refl;
+    found = inr (
+      none,
+      subst (λ (k : ℕ). GrowsTable a.geometry a image old new owner (length ds) (length ps - 1) k
+          (viewed a image old k) it.page.0 it.bytes.items) q_is
+          (subst (λ (k : ℕ). GrowsTable a.geometry a image old new owner (length ds) k q.0
+          (viewed a image old q.0) it.page.0 it.bytes.items) at_is
+          (subst (λ (k : ℕ). GrowsTable a.geometry a image old new owner k at q.0
+          (viewed a image old q.0) it.page.0 it.bytes.items) place_is
+          (grows_on m a b kept image old new owner place at q.0 it.page.0 (viewed b image old q.0)
+          (viewed a image old q.0) it.bytes.items (seen_at old q.0) grows))),
+    );
+  }
+
+  pub room_ungrown : (store : Pool D L) (old : Changed) (owner at : ℕ) (q : PageNo) (ps ds : List ℕ)
+      (fault : SpaceFault) → at ≡ length ps - 1 → q.0 ≡ get_or ps (length ps - 1) 0
+      → RefusesGrowth m b store image old owner at q fault
+      → RefusesRoomIn m a store image old owner ps ds fault
+  room_ungrown store old owner at q ps ds fault at_is q_is refused = inr (
       subst (λ (k : ℕ). RefusesGrowth m a store image old owner (length ps - 1) (record { 0 = k }) fault) q_is
       (subst (λ (k : ℕ). RefusesGrowth m a store image old owner k q fault) at_is
       (growth_refused_on store old owner at q fault refused)))
@@ -118,6 +137,27 @@ module _ {D L : Type 0} (m : Meaning D) (a b : Pool D L) (image : Image) (kept :
   room_refused_on store old owner ps ds fault (inr growth) =
       inr (growth_refused_on store old owner (length ps - 1)
       (record { 0 = get_or ps (length ps - 1) 0 }) fault growth)
+
+  -- what is given of the pages of a table that were found is given of the table
+  pub listed_given : (store : Pool D L) (old new : Changed) (owner need : ℕ) (ps ds : List ℕ)
+      (result : Result PageNo SpaceFault) → IsTable (viewed a image old) owner ps ds
+      → MatchResult result (GivesIn b image old new owner ps ds need)
+      (RefusesRoomIn m b store image old owner ps ds)
+      → MatchResult result (GivesRoom a image old new owner need) (RefusesRoom m a store image old owner)
+  listed_given store old new owner need ps ds (Ok n) table gives = record {
+    pointers = ps;
+    data_pages = ds;
+    table = table;
+    it = gives.it;
+    page_is = gives.page_is;
+    found = finds_on m a b kept image old new owner need ps ds gives.it gives.found;
+  }
+  listed_given store old new owner need ps ds (Err fault) table refused = inr (record {
+    pointers = ps;
+    data_pages = ds;
+    table = table;
+    refused = room_refused_on store old owner ps ds fault refused;
+  })
 
 -- ---- the last of some numbers
 

@@ -6,10 +6,9 @@ use Rattle.mg_image.specs.Form.{Pages}
 use Rattle.mg_pool.specs.declared.batch.BatchPage.{BatchPage}
 use Rattle.mg_pool.specs.declared.pool.Pool.{Pool}
 use Rattle.mg_space.specs.declared.fault.SpaceFault.{SpaceFault}
-use Rattle.mg_heap.specs.Room.{IsFirstWithRoom}
+use Rattle.mg_heap.specs.Room.{IsFirstWithRoom, found_in}
 use Rattle.mg_heap.specs.Table.{IsTable, RefusesTable}
 use Rattle.mg_heap.specs.Walk.{RefusesWalkOf}
-use Rattle.mg_heap.specs.declared.growth.DataPage.{DataPage}
 use Rattle.mg_heap.specs.declared.room.LastPlace.{LastPlace}
 
 -- A page is the last data page of a table, and stands at a place of it.
@@ -31,16 +30,16 @@ IsPlaced None at found = found ≡ None
 IsPlaced (Some page) at found = found ≡ Some (record { page = page; at = at })
 
 -- The page that was found is the first one with room, in the order in which they are looked at.
-pub record HasFirst (pages : Pages) (owner need : ℕ) (it : DataPage) : Type 0 where
+pub record HasFirst (pages : Pages) (owner need : ℕ) (page : PageNo) : Type 0 where
   pub pointers : List ℕ
   pub data_pages : List ℕ
   pub table : IsTable pages owner pointers data_pages
-  pub first : IsFirstWithRoom pages data_pages need it
+  pub first : IsFirstWithRoom pages data_pages need (found_in pages page)
 
 -- a page with room was found, or nothing
-abbrev pub GivesLast : Pages → ℕ → ℕ → Option DataPage → Type 0
+abbrev pub GivesLast : Pages → ℕ → ℕ → Option PageNo → Type 0
 GivesLast pages owner need None = Unit {0}
-GivesLast pages owner need (Some it) = HasFirst pages owner need it
+GivesLast pages owner need (Some page) = HasFirst pages owner need page
 
 -- The pages of a table are found, and one of its data pages is not as wanted.
 pub record RefusesLastOf {D L : Type 0} (m : Meaning D) (store : Pool D L) (batch : List BatchPage)

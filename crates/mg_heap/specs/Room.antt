@@ -9,10 +9,12 @@ use Rattle.mg_base.specs.declared.numbers.PageNo.{PageNo}
 use Rattle.mg_base.specs.declared.numbers.RecId.{RecId}
 use Rattle.mg_image.specs.Form.{Pages}
 use Rattle.mg_pool.specs.Batch.{Changed}
+use Rattle.mg_pool.specs.declared.batch.BatchPage.{BatchPage}
 use Rattle.mg_pool.specs.declared.pool.Pool.{Pool}
 use Rattle.mg_slots.specs.DataPage.{IsDataPage}
 use Rattle.mg_slots.specs.Room.{least_free, need_of, room_of}
 use Rattle.mg_slots.specs.declared.change.NoRoom.{NoRoom}
+use Rattle.mg_space.specs.Lawful.{readable}
 use Rattle.mg_space.specs.View.{viewed}
 use Rattle.mg_space.specs.declared.fault.SpaceFault.{SpaceFault}
 use Rattle.mg_space.specs.declared.fault.SpaceFault.TheVariants as faults
@@ -21,30 +23,40 @@ use Rattle.mg_heap.specs.Growth.{GrowsTable, RefusesGrowth}
 use Rattle.mg_heap.specs.Reading.{IsSomeData, RefusesData}
 use Rattle.mg_heap.specs.Table.{IsTable, RefusesTable}
 use Rattle.mg_heap.specs.Walk.{RefusesWalkOf}
-use Rattle.mg_heap.specs.declared.growth.DataPage.{DataPage}
 
--- the page that was found is a data page with room for so many bytes
-pub record HasRoomFor (need : ℕ) (it : DataPage) : Type 0 where
-  pub lawful : IsDataPage it.bytes.items
-  pub room : need ≤ room_of it.bytes.items
+-- a data page, and its content where it was found or made
+pub record GivenPage : Type 0 where
+  pub page : PageNo
+  pub bytes : List ℕ
+
+-- a page as it is found among these pages
+abbrev pub found_in : Pages → PageNo → GivenPage
+found_in pages page = record { page = page; bytes = pages page.0 }
+
+-- a page can be read without the disk, and what is read is a data page with room for so many bytes
+pub record HoldsRoom {D L : Type 0} (store : Pool D L) (batch : List BatchPage) (need : ℕ)
+    (page : PageNo) : Type 0 where
+  pub bytes : List ℕ
+  pub read : readable store batch page.0 ≡ Some bytes
+  pub lawful : IsDataPage bytes
+  pub room : need ≤ room_of bytes
 
 -- one page was looked at: it has room, or it has not
-abbrev pub LooksAt : Pages → ℕ → ℕ → Option DataPage → Type 0
+abbrev pub LooksAt : Pages → ℕ → ℕ → Option PageNo → Type 0
 LooksAt pages n need None = room_of (pages n) < need
-LooksAt pages n need (Some it) =
-    (it.page.0 ≡ n) × (it.bytes.items ≡ pages n) × (need ≤ room_of (pages n))
+LooksAt pages n need (Some page) = (page.0 ≡ n) × (need ≤ room_of (pages n))
 
 -- the place that is looked at after so many others: the last one first, then the others in their order
 abbrev pub looked_at : ℕ → ℕ → ℕ
 looked_at k len = if k == 0 then len - 1 else k - 1
 
 -- The page was found by looking at the places in that order.
-pub record IsFirstWithRoom (pages : Pages) (data_pages : List ℕ) (need : ℕ) (it : DataPage)
+pub record IsFirstWithRoom (pages : Pages) (data_pages : List ℕ) (need : ℕ) (it : GivenPage)
     : Type 0 where
   pub after : ℕ
   pub inside : after < length data_pages
   pub page_is : it.page.0 ≡ slice_index data_pages (looked_at after (length data_pages))
-  pub bytes_are : it.bytes.items ≡ pages it.page.0
+  pub bytes_are : it.bytes ≡ pages it.page.0
   pub room : need ≤ room_of (pages it.page.0)
   pub earlier : (k : ℕ) → k < after
       → room_of (pages (slice_index data_pages (looked_at k (length data_pages)))) < need
@@ -55,20 +67,28 @@ NoneHasRoom pages data_pages need =
     (place : ℕ) → place < length data_pages → room_of (pages (slice_index data_pages place)) < need
 
 -- a page was found, or none has room
-abbrev pub FindsRoom : Pages → List ℕ → ℕ → Option DataPage → Type 0
+abbrev pub FindsRoom : Pages → List ℕ → ℕ → Option PageNo → Type 0
 FindsRoom pages data_pages need None = NoneHasRoom pages data_pages need
-FindsRoom pages data_pages need (Some it) = IsFirstWithRoom pages data_pages need it
+FindsRoom pages data_pages need (Some page) =
+    IsFirstWithRoom pages data_pages need (found_in pages page)
 
 -- A page with room was found and the batch is as before, or no data page has room, and the table has
 -- got one more, behind its last pointer page.
 abbrev pub FindsOrGrows : {D L : Type 0} → Pool D L → Image → Changed → Changed → ℕ → List ℕ → List ℕ → ℕ
-    → DataPage → Type 0
+    → GivenPage → Type 0
 FindsOrGrows store image old new owner pointers data_pages need it =
     ((new ≡ old) × IsFirstWithRoom (viewed store image old) data_pages need it)
     ⊎ (NoneHasRoom (viewed store image old) data_pages need
     × GrowsTable store.geometry store image old new owner (length data_pages) (length pointers - 1)
     (slice_index pointers (length pointers - 1))
-    (viewed store image old (slice_index pointers (length pointers - 1))) it.page.0 it.bytes.items)
+    (viewed store image old (slice_index pointers (length pointers - 1))) it.page.0 it.bytes)
+
+-- a page was found so, or the table has got it
+pub record GivesIn {D L : Type 0} (store : Pool D L) (image : Image) (old new : Changed) (owner : ℕ)
+    (pointers data_pages : List ℕ) (need : ℕ) (n : PageNo) : Type 0 where
+  pub it : GivenPage
+  pub page_is : it.page ≡ n
+  pub found : FindsOrGrows store image old new owner pointers data_pages need it
 
 -- the same, in the table that begins with a pointer page
 pub record GivesRoom {D L : Type 0} (store : Pool D L) (image : Image) (old new : Changed)
@@ -76,7 +96,7 @@ pub record GivesRoom {D L : Type 0} (store : Pool D L) (image : Image) (old new 
   pub pointers : List ℕ
   pub data_pages : List ℕ
   pub table : IsTable (viewed store image old) owner pointers data_pages
-  pub it : DataPage
+  pub it : GivenPage
   pub page_is : it.page ≡ n
   pub found : FindsOrGrows store image old new owner pointers data_pages need it
 

@@ -16,9 +16,8 @@ use Rattle.mg_space.specs.View.{KeepsStore, viewed}
 use Rattle.mg_space.specs.ViewLaws.{viewed_on}
 use Rattle.mg_heap.specs.Changing.{ChangesOne}
 use Rattle.mg_heap.specs.Growth.{AddsOrders, GrowsTable, HasEntryRoom, ListsInLast, ListsInNew, MakesData, orders_to}
-use Rattle.mg_heap.specs.Room.{AddsCell, FindsOrGrows, GivesRoom, IsFirstWithRoom, NoneHasRoom, PutsIn}
+use Rattle.mg_heap.specs.Room.{AddsCell, FindsOrGrows, GivenPage, GivesRoom, IsFirstWithRoom, NoneHasRoom, PutsIn}
 use Rattle.mg_heap.specs.Table.{IsTable}
-use Rattle.mg_heap.specs.declared.growth.DataPage.{DataPage}
 
 module _ {D L : Type 0} (m : Meaning D) (a b : Pool D L) (kept : KeepsStore m a b) where
   pub bits_on : (old new : Changed) (n : ℕ) → PutsInventory b.geometry old new n
@@ -91,7 +90,7 @@ module _ {D L : Type 0} (m : Meaning D) (a b : Pool D L) (kept : KeepsStore m a 
           (p, new_on old new owner place (at + 1) q p n slice pointer bytes same lists),
         )
 
-    pub finds_on : (old new : Changed) (owner need : ℕ) (pointers data_pages : List ℕ) (it : DataPage)
+    pub finds_on : (old new : Changed) (owner need : ℕ) (pointers data_pages : List ℕ) (it : GivenPage)
         → FindsOrGrows b image old new owner pointers data_pages need it
         → FindsOrGrows a image old new owner pointers data_pages need it
     finds_on old new owner need pointers data_pages it (inl (same, first)) = inl (
@@ -104,7 +103,7 @@ module _ {D L : Type 0} (m : Meaning D) (a b : Pool D L) (kept : KeepsStore m a 
       grows_on old new owner (length data_pages) (length pointers - 1)
           (slice_index pointers (length pointers - 1)) it.page.0
           (viewed b image old (slice_index pointers (length pointers - 1)))
-          (viewed a image old (slice_index pointers (length pointers - 1))) it.bytes.items
+          (viewed a image old (slice_index pointers (length pointers - 1))) it.bytes
           (ap (λ (pages : Pages). pages (slice_index pointers (length pointers - 1)))
           (viewed_on m a b image old kept)) grows,
     )

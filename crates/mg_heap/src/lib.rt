@@ -45,4 +45,4 @@ pub use reach::{owner_of, pointers_to};
 pub use reading::{cell, hold_data};
 pub use room::page_with_room;
 pub use table::{TablePages, table_pages};
-pub use walk::{is_primary, next, table_data_page};
+pub use walk::{hold_table_data, is_primary, next, table_data_page};

@@ -10,18 +10,18 @@ ghost use Rattle.mg_space.specs.Taking.{IsGeometry};
 ghost use Rattle.mg_space.specs.View.{AreWhole, KeepsStore, ReadsAlone, Tells, pool_answer, viewed};
 ghost use Rattle.mg_heap.specs.Reading.{ReadsData};
 ghost use Rattle.mg_heap.specs.LastRoom.{FindsLast, GivesLast, IsPlaced, RefusesLast};
-ghost use Rattle.mg_heap.specs.Room.{FindsOrGrows, FindsRoom, GivesRoom, HasRoomFor, LooksAt, RefusesRoom, RefusesRoomIn, looked_at as place_after};
+ghost use Rattle.mg_heap.specs.Room.{FindsRoom, GivesIn, GivesRoom, HoldsRoom, LooksAt, RefusesRoom, RefusesRoomIn, looked_at as place_after};
 ghost use Rattle.mg_heap.specs.Table.{RefusesTable};
 ghost use Rattle.mg_heap.specs.Walk.{RefusesWalkOf};
 
-use crate::growth::{DataPage, Places, grow};
+use crate::growth::{Places, grow};
 use crate::lookup::{data_page_at, data_page_count};
 use crate::table::{TablePages, table_pages};
-use crate::walk::table_data_page;
+use crate::walk::hold_table_data;
 use mg_base::{Disk, GREATEST_LIMIT, PageNo};
 use mg_pool::Batch;
 use mg_slots::room;
-use mg_space::{SpaceFault, Store, known_room, note_room};
+use mg_space::{SpaceFault, Store, known_room, lent, note_room};
 
 /// A data page of the table with room for so many bytes: the last one if it has room, else the first
 /// one that has; where none has, the table gets a new one, which is empty.
@@ -64,7 +64,7 @@ pub fn page_with_room<D: Disk>(
 {
     let last = last_with_room(store, batch, owner, need)?;
     if let Some(found) = last {
-        return Ok(found.page);
+        return Ok(found);
     }
     listed_with_room(store, batch, owner, need)
 }
@@ -91,8 +91,7 @@ fn listed_with_room<D: Disk>(
         (RefusesRoom D.meaning store.old store.new image batch.old owner.0) }
 {
     let table = table_pages(store, batch, owner)?;
-    let found = room_in(store, batch, owner, &table, need)?;
-    Ok(found.page)
+    room_in(store, batch, owner, &table, need)
 }
 
 /// The last data page of a table, if it has room for so many bytes. The data pages are counted for it
@@ -107,7 +106,7 @@ fn last_with_room<D: Disk>(
     batch: &Batch,
     owner: PageNo,
     need: u32,
-) -> Result<Option<DataPage>, SpaceFault>
+) -> Result<Option<PageNo>, SpaceFault>
     requires pool { IsPool D.meaning store.old }
     requires geometry { IsGeometry store.old.geometry }
     requires whole { AreWhole store.old.geometry batch.now.pages }
@@ -125,14 +124,12 @@ fn last_with_room<D: Disk>(
     let Some(last) = found else {
         return Ok(None);
     };
-    let bytes = table_data_page(store, batch, owner, last.page, last.at)?;
-    if room(bytes.as_slice()) < need {
+    hold_table_data(store, batch, owner, last.page, last.at)?;
+    let page = lent(store, batch, last.page);
+    if room(page) < need {
         return Ok(None);
     }
-    Ok(Some(DataPage {
-        page: last.page,
-        bytes: bytes.into_vec(),
-    }))
+    Ok(Some(last.page))
 }
 
 /// A data page of a table, and the place of it.
@@ -192,7 +189,7 @@ fn room_in<D: Disk>(
     owner: PageNo,
     table: &TablePages,
     need: u32,
-) -> Result<DataPage, SpaceFault>
+) -> Result<PageNo, SpaceFault>
     requires pool { IsPool D.meaning store.old }
     requires geometry { IsGeometry store.old.geometry }
     requires whole { AreWhole store.old.geometry batch.old.pages }
@@ -206,7 +203,7 @@ fn room_in<D: Disk>(
     ensures own { ReadsAlone result }
     ensures whole { AreWhole store.old.geometry batch.new.pages }
     ensures gives { (image : Image) → Tells D.meaning store.old.disk image → MatchResult result
-        (FindsOrGrows store.old image batch.old batch.new owner.0 table.now.pointers.items
+        (GivesIn store.old image batch.old batch.new owner.0 table.now.pointers.items
         table.now.data_pages.items need)
         (RefusesRoomIn D.meaning store.old store.new image batch.old owner.0
         table.now.pointers.items table.now.data_pages.items) }
@@ -219,7 +216,8 @@ fn room_in<D: Disk>(
         data: table.data_pages.len() as u32,
         pointer: last as u32,
     };
-    grow(store, batch, owner, at, PageNo(table.pointers[last]))
+    let made = grow(store, batch, owner, at, PageNo(table.pointers[last]))?;
+    Ok(made.page)
 }
 
 /// The first of the listed data pages with room for so many bytes: the last one is looked at first,
@@ -230,7 +228,7 @@ fn page_with<D: Disk>(
     owner: PageNo,
     data_pages: &[u32],
     need: u32,
-) -> Result<Option<DataPage>, SpaceFault>
+) -> Result<Option<PageNo>, SpaceFault>
     requires pool { IsPool D.meaning store.old }
     requires geometry { IsGeometry store.old.geometry }
     requires whole { AreWhole store.old.geometry batch.now.pages }
@@ -240,7 +238,7 @@ fn page_with<D: Disk>(
     ensures keeps { KeepsStore D.meaning store.old store.new }
     ensures fault { TellsFault D.meaning store.old store.new (pool_answer result) }
     ensures own { ReadsData result }
-    ensures room { IfOk result (λ found. IfSome found (HasRoomFor need)) }
+    ensures room { IfOk result (λ found. IfSome found (HoldsRoom store.new batch.now.pages need)) }
     ensures finds { (image : Image) → Tells D.meaning store.old.disk image → MatchResult result
         (FindsRoom (viewed store.old image batch.now) data_pages.now need)
         (RefusesWalkOf D.meaning store.new batch.now.pages (viewed store.old image batch.now) owner.0
@@ -272,7 +270,7 @@ fn page_at<D: Disk>(
     data_pages: &[u32],
     place: usize,
     need: u32,
-) -> Result<Option<DataPage>, SpaceFault>
+) -> Result<Option<PageNo>, SpaceFault>
     requires pool { IsPool D.meaning store.old }
     requires geometry { IsGeometry store.old.geometry }
     requires whole { AreWhole store.old.geometry batch.now.pages }
@@ -283,7 +281,7 @@ fn page_at<D: Disk>(
     ensures keeps { KeepsStore D.meaning store.old store.new }
     ensures fault { TellsFault D.meaning store.old store.new (pool_answer result) }
     ensures own { ReadsData result }
-    ensures room { IfOk result (λ found. IfSome found (HasRoomFor need)) }
+    ensures room { IfOk result (λ found. IfSome found (HoldsRoom store.new batch.now.pages need)) }
     ensures looks { (image : Image) → Tells D.meaning store.old.disk image → MatchResult result
         (LooksAt (viewed store.old image batch.now) (slice_index data_pages.now place) need)
         (RefusesWalkOf D.meaning store.new batch.now.pages (viewed store.old image batch.now) owner.0
@@ -293,16 +291,14 @@ fn page_at<D: Disk>(
     if is_known_full(store, batch, n, need) {
         return Ok(None);
     }
-    let bytes = table_data_page(store, batch, owner, n, place as u32)?;
-    if room(bytes.as_slice()) < need {
+    hold_table_data(store, batch, owner, n, place as u32)?;
+    let page = lent(store, batch, n);
+    if room(page) < need {
         // It is not looked at again until it has changed.
         note_room(store, n);
         return Ok(None);
     }
-    Ok(Some(DataPage {
-        page: n,
-        bytes: bytes.into_vec(),
-    }))
+    Ok(Some(n))
 }
 
 /// Tells that a page has no room for so many bytes, where the cache has noted its room. It may be so

@@ -197,7 +197,7 @@ fn first_from<D: Disk>(
 ///
 /// `Damaged` at `Presence` where the page is missing, else at the first field that differs. `Pool`
 /// with `DiskRead`, `Offline` or `Memory`.
-fn hold_table_data<D: Disk>(
+pub fn hold_table_data<D: Disk>(
     store: &mut Store<D>,
     batch: &Batch,
     owner: PageNo,

@@ -150,7 +150,7 @@ module _ {D : Type 0} (m : Meaning D) (a : Pool D FireLinks) (image : Image) (ge
 
   -- it has a data page more
   module _ (it : ListsInLast a.geometry a image no_batch given table.pointer.0 (length gives.data_pages) q n
-      (view no_batch q) gives.it.bytes.items) where
+      (view no_batch q) gives.it.bytes) where
     abbrev bit : ℕ
     bit = inventory_page size (region_of size n)
 
@@ -171,7 +171,7 @@ module _ {D : Type 0} (m : Meaning D) (a : Pool D FireLinks) (image : Image) (ge
 
     listed : IsGood size (rank_of f s q q n) 3 it.listed
     listed = good_puts it.made it.listed q it.page it.puts size (rank_of f s q q n) 2
-        (good_puts it.taken it.made n gives.it.bytes.items it.makes.puts size (rank_of f s q q n) 1
+        (good_puts it.taken it.made n gives.it.bytes it.makes.puts size (rank_of f s q q n) 1
         (good_puts no_batch it.taken bit it.bit.bytes it.bit.puts size (rank_of f s q q n) 0
         (good_none size (rank_of f s q q n)) it.bit.len) it.makes.made.len)
         (it.adds.len ∙ sound.header.whole q)
@@ -195,7 +195,7 @@ module _ {D : Type 0} (m : Meaning D) (a : Pool D FireLinks) (image : Image) (ge
 
   -- it has a data page more, and a pointer page
   module _ (p at : ℕ) (it : ListsInNew a.geometry a image no_batch given table.pointer.0 (length gives.data_pages) at q
-      p n (view no_batch q) gives.it.bytes.items) where
+      p n (view no_batch q) gives.it.bytes) where
     abbrev bit_p : ℕ
     bit_p = inventory_page size (region_of size p)
 
@@ -234,7 +234,7 @@ module _ {D : Type 0} (m : Meaning D) (a : Pool D FireLinks) (image : Image) (ge
     linked : IsGood size rank 5 it.linked
     linked = good_puts it.begun it.linked q it.link it.puts_link size rank 4
         (good_puts it.made it.begun p it.page it.puts size rank 3
-        (good_puts it.taken it.made n gives.it.bytes.items it.makes.puts size rank 2
+        (good_puts it.taken it.made n gives.it.bytes it.makes.puts size rank 2
         (good_puts it.with_bit it.taken bit_n it.bit.bytes it.bit.puts size rank 1
         (good_puts no_batch it.with_bit bit_p it.bit_pointer.bytes it.bit_pointer.puts size rank 0
         (good_none size rank) it.bit_pointer.len) it.bit.len) it.makes.made.len)

@@ -188,15 +188,15 @@ module _ {D : Type 0} (m : Meaning D) (laws : Reads m) (a n : Pool D FireLinks) 
 
     in_last : (pointer : List ℕ)
         → ListsInLast a.geometry a image old given table.pointer.0 (length gives.data_pages) q fresh pointer
-        gives.it.bytes.items → view given fresh ≡ gives.it.bytes.items
+        gives.it.bytes → view given fresh ≡ gives.it.bytes
     in_last pointer it = ap (λ (ps : Pages). ps fresh) (viewed_same a image it.listed given it.orders.same_pages)
         ∙ (viewed_else a image it.made it.listed q it.page it.puts fresh
         (off (view old) q fresh last.used it.takes.free.unused)
-        ∙ viewed_here a image it.taken it.made fresh gives.it.bytes.items it.makes.puts)
+        ∙ viewed_here a image it.taken it.made fresh gives.it.bytes it.makes.puts)
 
     in_new : (pointer : List ℕ) (p at : ℕ)
         → ListsInNew a.geometry a image old given table.pointer.0 (length gives.data_pages) at q p fresh pointer
-        gives.it.bytes.items → view given fresh ≡ gives.it.bytes.items
+        gives.it.bytes → view given fresh ≡ gives.it.bytes
     in_new pointer p at it = ap (λ (ps : Pages). ps fresh) (viewed_same a image it.linked given it.orders.same_pages)
         ∙ (viewed_else a image it.begun it.linked q it.link it.puts_link fresh
         (off (view it.with_bit) q fresh (takes_keeps a.geometry (view old) (view it.with_bit) p geometry
@@ -204,7 +204,7 @@ module _ {D : Type 0} (m : Meaning D) (laws : Reads m) (a n : Pool D FireLinks) 
         ∙ (viewed_else a image it.made it.begun p it.page it.puts fresh
         (off (view it.with_bit) p fresh (takes_bit a.geometry (view old) (view it.with_bit) p geometry
         it.takes_pointer) it.takes.free.unused)
-        ∙ viewed_here a image it.taken it.made fresh gives.it.bytes.items it.makes.puts))
+        ∙ viewed_here a image it.taken it.made fresh gives.it.bytes it.makes.puts))
 
     new_room : (b : List ℕ) (owner place : ℕ) → view given fresh ≡ b → IsNewPage b size fresh owner place
         → need + 24 ≤ size → need ≤ room_of (view given fresh)
@@ -218,9 +218,9 @@ module _ {D : Type 0} (m : Meaning D) (laws : Reads m) (a n : Pool D FireLinks) 
         by : FindsOrGrows a image old given table.pointer.0 gives.pointers gives.data_pages need gives.it
             → need ≤ room_of (view given fresh)
         by (inl (same, first)) = subst (λ (b : Changed). need ≤ room_of (view b fresh)) (sym same) first.room
-        by (inr (none, inl (room, it))) = new_room gives.it.bytes.items table.pointer.0 (length gives.data_pages)
+        by (inr (none, inl (room, it))) = new_room gives.it.bytes table.pointer.0 (length gives.data_pages)
             (in_last (view old q) it) it.makes.made fits
-        by (inr (none, inr (full, (p, it)))) = new_room gives.it.bytes.items table.pointer.0
+        by (inr (none, inr (full, (p, it)))) = new_room gives.it.bytes table.pointer.0
             (length gives.data_pages) (in_new (view old q) p (length gives.pointers - 1 + 1) it) it.makes.made fits
 
     -- a page that was found has the room, and a new one is none that was used, and has all the room of its kind
@@ -240,14 +240,14 @@ module _ {D : Type 0} (m : Meaning D) (laws : Reads m) (a n : Pool D FireLinks) 
         by (inl (same, first)) = inl (subst (λ (b : Changed). need ≤ room_of (view b fresh)) (sym same) first.room)
         by (inr (none, inl (room, it))) = inr (
           off (view old) k fresh used it.takes.free.unused,
-          whole gives.it.bytes.items table.pointer.0 (length gives.data_pages) (in_last (view old q) it)
+          whole gives.it.bytes table.pointer.0 (length gives.data_pages) (in_last (view old q) it)
               it.makes.made,
         )
         by (inr (none, inr (full, (p, it)))) = inr (
           off (view it.with_bit) k fresh
               (takes_keeps a.geometry (view old) (view it.with_bit) p geometry it.takes_pointer k used)
               it.takes.free.unused,
-          whole gives.it.bytes.items table.pointer.0 (length gives.data_pages)
+          whole gives.it.bytes table.pointer.0 (length gives.data_pages)
               (in_new (view old q) p (length gives.pointers - 1 + 1) it) it.makes.made,
         )
 

@@ -12,10 +12,10 @@ ghost use Rattle.mg_space.specs.View.{AreWhole, KeepsStore, Tells, pool_answer, 
 ghost use Rattle.mg_seek.specs.TableRecords.{AreTableRecords, record_at, records_in, records_on};
 
 use mg_base::{Disk, GREATEST_LIMIT, Memory, PageNo, RecId};
-use mg_heap::{is_primary, table_data_page, table_pages};
+use mg_heap::{hold_table_data, is_primary, table_pages};
 use mg_pool::Batch;
 use mg_slots::slots;
-use mg_space::{SpaceFault, Store};
+use mg_space::{SpaceFault, Store, lent};
 
 /// The records of the table that begins with a pointer page, in the order of its data pages and their
 /// slots.
@@ -97,8 +97,8 @@ fn add_page<D: Disk>(
         (RefusesTableData D.meaning store.new batch.now.pages
         (viewed store.old image batch.now n.0) owner.0 at n) }
 {
-    let page = table_data_page(store, batch, owner, n, at)?;
-    add_records(page.as_slice(), n, records)?;
+    hold_table_data(store, batch, owner, n, at)?;
+    add_records(lent(store, batch, n), n, records)?;
     Ok(())
 }
 

@@ -11,6 +11,9 @@ use crate::page::{COUNT_AT, GREATEST_SIZE, LOW_AT, SLOT_LEN, SLOTS_AT, cell};
 use crate::space::taken;
 use mg_base::{COMMON, put_u16};
 
+/// The size of most pages, in bytes: the copy of a page that is no longer takes no more.
+const USUAL_SIZE: usize = 4096;
+
 /// Writes bytes at `at`.
 fn put_bytes(b: &mut [u8], at: usize, bytes: &[u8])
     requires { at + length bytes.now ≤ length b.old }
@@ -119,7 +122,29 @@ pub(crate) fn rewrite(b: &mut [u8], slot: usize, new_cell: Option<&[u8]>, count:
     ensures sets { SetsCell b.old b.new slot (option_copied new_cell.entry) }
     ensures count { slot_count b.new ≡ count }
 {
-    let mut copy = [0u8; GREATEST_SIZE];
+    if b.len() <= USUAL_SIZE {
+        rewrite_over::<USUAL_SIZE>(b, slot, new_cell, count);
+    } else {
+        rewrite_over::<GREATEST_SIZE>(b, slot, new_cell, count);
+    }
+}
+
+/// The same of a page of at most `ROOM` bytes, over a copy that takes so many.
+///
+/// The copy is made zero first, which costs as much as it is long: so it is no longer than pages of the
+/// usual size want, and stands in no frame but its own.
+#[inline(never)]
+fn rewrite_over<const ROOM: usize>(b: &mut [u8], slot: usize, new_cell: Option<&[u8]>, count: usize)
+    requires fits { length b.old ≤ ROOM }
+    requires most { ROOM ≤ GREATEST_SIZE }
+    requires lawful { IsDataPage b.old }
+    requires ends { EndsAt (with_cell (cell_of b.old) slot (option_copied new_cell)) count }
+    requires room { space_of (with_cell (cell_of b.old) slot (option_copied new_cell)) count
+        ≤ length b.old }
+    ensures sets { SetsCell b.old b.new slot (option_copied new_cell.entry) }
+    ensures count { slot_count b.new ≡ count }
+{
+    let mut copy = [0u8; ROOM];
     let size = b.len();
     copy[..size].copy_from_slice(b);
     rewrite_from(b, &copy[..size], slot, new_cell, count);

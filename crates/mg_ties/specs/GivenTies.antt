@@ -141,7 +141,7 @@ module _ {D L : Type 0} (form : Form) (store : Pool D L) (image : Image) (state 
 
   in_last : (pointer : List ℕ)
       → ListsInLast store.geometry store image old new table.pointer.0 (length gives.data_pages) q
-      gives.it.page.0 pointer gives.it.bytes.items
+      gives.it.page.0 pointer gives.it.bytes
       → IsEntered (λ k. Unit {0}) next gives.it.page.0 table.pointer.0
   in_last pointer it = along same (here q (some q last_may_be) tt
       (subst (λ (page : List ℕ). Has (entries_of page) gives.it.page.0) (sym last_now)
@@ -158,7 +158,7 @@ module _ {D L : Type 0} (form : Form) (store : Pool D L) (image : Image) (state 
       same : (k : ℕ) → Has front k → next k ≡ view k
       same k there = ap (λ (pages : Pages). pages k) views
           ∙ (viewed_else store image it.made it.listed q it.page it.puts k (front_off k there)
-          ∙ (viewed_else store image it.taken it.made gives.it.page.0 gives.it.bytes.items it.makes.puts k
+          ∙ (viewed_else store image it.taken it.made gives.it.page.0 gives.it.bytes it.makes.puts k
           off_new ∙ it.takes.others k (λ e. (front_may k there).no_inventory
           (region_of size gives.it.page.0) (sym e))))
         where
@@ -168,7 +168,7 @@ module _ {D L : Type 0} (form : Form) (store : Pool D L) (image : Image) (state 
 
   in_new : (pointer : List ℕ) (p at : ℕ)
       → ListsInNew store.geometry store image old new table.pointer.0 (length gives.data_pages) at q p
-      gives.it.page.0 pointer gives.it.bytes.items
+      gives.it.page.0 pointer gives.it.bytes
       → IsEntered (λ k. Unit {0}) next gives.it.page.0 table.pointer.0
   in_new pointer p at it = along same (later q (some q last_may_be) tt
       (subst (λ (k : ℕ). IsEntered (λ i. Unit {0}) next gives.it.page.0 k) (sym next_is)
@@ -209,7 +209,7 @@ module _ {D L : Type 0} (form : Form) (store : Pool D L) (image : Image) (state 
           ∙ (viewed_else store image it.begun it.linked q it.link it.puts_link k (front_off k there)
           ∙ (viewed_else store image it.made it.begun p it.page it.puts k
           (λ e. apart k (front_may k there) (sym e))
-          ∙ (viewed_else store image it.taken it.made gives.it.page.0 gives.it.bytes.items it.makes.puts k
+          ∙ (viewed_else store image it.taken it.made gives.it.page.0 gives.it.bytes it.makes.puts k
           (off_data k (front_may k there))
           ∙ (it.takes.others k (λ e. (front_may k there).no_inventory
           (region_of size gives.it.page.0) (sym e))

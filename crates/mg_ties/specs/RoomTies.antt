@@ -260,7 +260,7 @@ room_grows form store image state layout r old new table need n orders batch law
           new (length gives.data_pages) (length gives.pointers - 1)
           (slice_index gives.pointers (length gives.pointers - 1)) gives.it.page.0
           (viewed store image old (slice_index gives.pointers (length gives.pointers - 1)))
-          gives.it.bytes.items lists_ refl
+          gives.it.bytes lists_ refl
           (last_may form store.geometry.size state (viewed store image old) layout r sound table its
           gives.pointers gives.data_pages gives.table) sound.header.whole (omega (arith, long))
           (small_owner form store.geometry.size state (viewed store image old) layout r sound table its
@@ -278,7 +278,7 @@ room_grows form store image state layout r old new table need n orders batch law
           new (length gives.data_pages) (length gives.pointers - 1)
           (slice_index gives.pointers (length gives.pointers - 1)) p gives.it.page.0
           (viewed store image old (slice_index gives.pointers (length gives.pointers - 1)))
-          gives.it.bytes.items lists_ refl
+          gives.it.bytes lists_ refl
           (last_may form store.geometry.size state (viewed store image old) layout r sound table its
           gives.pointers gives.data_pages gives.table) sound.header.whole long
           (small_owner form store.geometry.size state (viewed store image old) layout r sound table its

@@ -34,7 +34,7 @@ module _ {D L : Type 0} (store : Pool D L) (image : Image) (contents : ℕ → O
       at (inr (none_, inl (room, it))) =
           within_put contents orders old it.taken
           (inventory_page store.geometry.size (region_of store.geometry.size gives.it.page.0)) it.bit.bytes
-          it.bit.puts (within_put contents orders it.taken it.made gives.it.page.0 gives.it.bytes.items
+          it.bit.puts (within_put contents orders it.taken it.made gives.it.page.0 gives.it.bytes
           it.makes.puts (within_put contents orders it.made it.listed
           (slice_index gives.pointers (length gives.pointers - 1)) it.page it.puts
           (within_orders contents orders it.listed new
@@ -45,7 +45,7 @@ module _ {D L : Type 0} (store : Pool D L) (image : Image) (contents : ℕ → O
           (inventory_page store.geometry.size (region_of store.geometry.size p)) it.bit_pointer.bytes
           it.bit_pointer.puts (within_put contents orders it.with_bit it.taken
           (inventory_page store.geometry.size (region_of store.geometry.size gives.it.page.0)) it.bit.bytes
-          it.bit.puts (within_put contents orders it.taken it.made gives.it.page.0 gives.it.bytes.items
+          it.bit.puts (within_put contents orders it.taken it.made gives.it.page.0 gives.it.bytes
           it.makes.puts (within_put contents orders it.made it.begun p it.page it.puts
           (within_put contents orders it.begun it.linked
           (slice_index gives.pointers (length gives.pointers - 1)) it.link it.puts_link

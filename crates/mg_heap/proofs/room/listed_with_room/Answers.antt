@@ -1,77 +1,37 @@
-use Rattle.std.proofs.Common.{◌∙◌, inr, refl, inl}
-use Rattle.mg_space.specs.HandedLaws.{fault_same, fault_up}
-use Rattle.mg_space.specs.ViewLaws.{tells_on, keeps_on}
+use Rattle.std.proofs.Common.{inl}
+use Rattle.mg_space.specs.HandedLaws.{fault_same}
+use Rattle.mg_space.specs.View.{pool_answer}
+use Rattle.mg_space.specs.ViewLaws.{fault_on, keeps_on, tells_on}
 use Rattle.mg_heap.specs.Room.{RefusesRoom}
-use Rattle.mg_heap.specs.RoomLaws.{finds_on}
-use Rattle.mg_heap.specs.declared.growth.DataPage.{DataPage}
-use Rattle.mg_heap.proofs.RoomLemmas.{room_refused_on}
+use Rattle.mg_heap.proofs.RoomLemmas.{listed_given}
 use Rattle.mg_heap.proofs.TableLemmas.{handed_on, whole_before, geometry_later, whole_later}
 use Rattle.mg_heap.specs.declared.table.TablePages.{TablePages}
-use Rattle.mg_heap.proofs.HandedLemmas.{alone_read, alone_same}
+use Rattle.mg_heap.proofs.HandedLemmas.{alone_read}
 use Rattle.mg_heap.proofs.room.listed_with_room.Goals as goal
 
-pub returns-in_err-found-clause-gives : goal.returns-in_err-found-clause-gives
-returns-in_err-found-clause-gives g c = λ image tells. handed_on c.from_residual-in_err-found.result
-    c.in_err-found.field-0.0 _
-    (RefusesRoom g.D.Disk.meaning c.args.store.now c.room_in.new.store image c.args.batch.now
-    c.args.owner.0)
-    c.from_residual-in_err-found.ensures.0 c.from_residual-in_err-found.ensures.1
-    (inr (record {
-      pointers = c.in_ok-table.table.pointers.items;
-      data_pages = c.in_ok-table.table.data_pages.items;
-      table = c.in_ok-table.ensures.finds image tells;
-      refused = room_refused_on g.D.Disk.meaning c.args.store.now c.table_pages.new.store image
-          c.in_ok-table.ensures.keeps c.room_in.new.store c.args.batch.now c.args.owner.0
-          c.in_ok-table.table.pointers.items c.in_ok-table.table.data_pages.items
-          c.in_err-found.field-0.0
-          (c.in_err-found.ensures.gives image (tells_on g.D.Disk.meaning c.args.store.now
-          c.table_pages.new.store image c.in_ok-table.ensures.keeps tells));
-    }))
-
 pub returns-clause-gives : goal.returns-clause-gives
-returns-clause-gives g c = λ image tells. record {
-  pointers = c.in_ok-table.table.pointers.items;
-  data_pages = c.in_ok-table.table.data_pages.items;
-  table = c.in_ok-table.ensures.finds image tells;
-  it = c.in_ok-found.found;
-  page_is = refl;
-  found = finds_on g.D.Disk.meaning c.args.store.now c.table_pages.new.store
-      c.in_ok-table.ensures.keeps image c.args.batch.now c.room_in.new.batch c.args.owner.0
-      c.args.need c.in_ok-table.table.pointers.items c.in_ok-table.table.data_pages.items
-      c.in_ok-found.found
-      (c.in_ok-found.ensures.gives image (tells_on g.D.Disk.meaning c.args.store.now
-      c.table_pages.new.store image c.in_ok-table.ensures.keeps tells));
-}
-
-pub returns-in_err-found-clause-keeps : goal.returns-in_err-found-clause-keeps
-returns-in_err-found-clause-keeps g c = keeps_on g.D.Disk.meaning g.met.D.Disk.counts_now c.args.store.now
-    c.table_pages.new.store c.room_in.new.store c.in_ok-table.ensures.keeps c.in_err-found.ensures.keeps
-
-pub returns-in_err-found-clause-whole : goal.returns-in_err-found-clause-whole
-returns-in_err-found-clause-whole g c = whole_before g.D.Disk.meaning c.args.store.now c.table_pages.new.store
-    c.in_ok-table.ensures.keeps c.room_in.new.batch.pages c.in_err-found.ensures.whole
+returns-clause-gives g c = λ image tells. listed_given g.D.Disk.meaning c.args.store.now
+    c.table_pages.new.store image c.in_ok-table.ensures.keeps c.room_in.new.store c.args.batch.now
+    c.room_in.new.batch c.args.owner.0 c.args.need c.in_ok-table.table.pointers.items
+    c.in_ok-table.table.data_pages.items c.room_in.result (c.in_ok-table.ensures.finds image tells)
+    (c.room_in.ensures.gives image (tells_on g.D.Disk.meaning c.args.store.now
+    c.table_pages.new.store image c.in_ok-table.ensures.keeps tells))
 
 pub returns-clause-keeps : goal.returns-clause-keeps
 returns-clause-keeps g c = keeps_on g.D.Disk.meaning g.met.D.Disk.counts_now c.args.store.now
-    c.table_pages.new.store c.room_in.new.store c.in_ok-table.ensures.keeps c.in_ok-found.ensures.keeps
+    c.table_pages.new.store c.room_in.new.store c.in_ok-table.ensures.keeps c.room_in.ensures.keeps
 
 pub returns-clause-whole : goal.returns-clause-whole
 returns-clause-whole g c = whole_before g.D.Disk.meaning c.args.store.now c.table_pages.new.store
-    c.in_ok-table.ensures.keeps c.room_in.new.batch.pages c.in_ok-found.ensures.whole
-
-pub returns-in_err-found-clause-fault : goal.returns-in_err-found-clause-fault
-returns-in_err-found-clause-fault g c = fault_up DataPage g.D.Disk.meaning c.args.store.now
-    c.table_pages.new.store c.room_in.new.store c.from_residual-in_err-found.result
-    c.in_err-found.field-0.0 c.in_ok-table.ensures.keeps c.in_ok-table.ensures.fault.2
-    c.from_residual-in_err-found.ensures.0 c.from_residual-in_err-found.ensures.1
-    c.in_err-found.ensures.fault
+    c.in_ok-table.ensures.keeps c.room_in.new.batch.pages c.room_in.ensures.whole
 
 pub returns-clause-fault : goal.returns-clause-fault
-returns-clause-fault g c = (
-  c.in_ok-table.ensures.fault.0,
-  c.in_ok-found.ensures.fault.1,
-  c.in_ok-found.ensures.fault.2 ∙ c.in_ok-table.ensures.fault.2,
-)
+returns-clause-fault g c = fault_on g.D.Disk.meaning c.args.store.now c.table_pages.new.store
+    c.room_in.new.store (pool_answer c.room_in.result) c.in_ok-table.ensures.keeps
+    c.in_ok-table.ensures.fault.2 c.room_in.ensures.fault
+
+pub returns-clause-own : goal.returns-clause-own
+returns-clause-own g c = c.room_in.ensures.own
 
 pub returns-in_err-table-clause-keeps : goal.returns-in_err-table-clause-keeps
 returns-in_err-table-clause-keeps g c = c.in_err-table.ensures.keeps
@@ -93,11 +53,6 @@ returns-in_err-table-clause-gives g c = λ image tells. handed_on c.from_residua
     c.in_err-table.field-0.0 _ (RefusesRoom g.D.Disk.meaning c.args.store.now c.table_pages.new.store image
     c.args.batch.now c.args.owner.0) c.from_residual.ensures.0 c.from_residual.ensures.1 (inl
     (c.in_err-table.ensures.finds image tells))
-
-pub returns-in_err-found-clause-own : goal.returns-in_err-found-clause-own
-returns-in_err-found-clause-own g c = alone_same DataPage c.from_residual-in_err-found.result
-    c.in_err-found.field-0.0 c.from_residual-in_err-found.ensures.0 c.from_residual-in_err-found.ensures.1
-    c.in_err-found.ensures.own
 
 pub room_in-requires-clause-pool : goal.room_in-requires-clause-pool
 room_in-requires-clause-pool g c = c.in_ok-table.ensures.keeps.pool

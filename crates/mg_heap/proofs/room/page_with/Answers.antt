@@ -1,10 +1,10 @@
 use Rattle.std.proofs.Common.{◌∙◌, Option, subst, get_or}
+use Rattle.mg_base.specs.declared.numbers.PageNo.{PageNo}
 use Rattle.mg_image.specs.Form.{Pages}
 use Rattle.mg_space.specs.HandedLaws.{fault_up}
 use Rattle.mg_space.specs.View.{viewed}
 use Rattle.mg_space.specs.ViewLaws.{keeps_on}
-use Rattle.mg_heap.specs.Room.{LooksAt, HasRoomFor}
-use Rattle.mg_heap.specs.declared.growth.DataPage.{DataPage}
+use Rattle.mg_heap.specs.Room.{HoldsRoom, LooksAt}
 use Rattle.mg_heap.specs.Walk.{RefusesWalkOf}
 use Rattle.std.specs.Prelude.{IfSome}
 use Rattle.mg_heap.proofs.RoomLemmas.{all_looked, all_seen, found_first, none_yet}
@@ -16,7 +16,7 @@ returns-in-Some-clause-finds g c = λ image tells. found_first
     (viewed c.args.store.now image c.args.batch.now) c.args.data_pages.now c.args.need c.loop-k.k
     c.looked_at-place.result c.in-Some.found c.loop-k-test.true c.looked_at-place.ensures.is
     (c.loop-k.invariant.none image tells)
-    (subst (λ (x : Option DataPage). LooksAt (viewed c.args.store.now image c.args.batch.now)
+    (subst (λ (x : Option PageNo). LooksAt (viewed c.args.store.now image c.args.batch.now)
     (get_or c.args.data_pages.now c.looked_at-place.result 0) c.args.need x) c.in-Some.is
     (as_started g.D.Disk.meaning c.args.store.now c.loop-k.store image c.args.batch.now
     c.loop-k.invariant.keeps tells (λ (pages : Pages). LooksAt pages
@@ -31,7 +31,7 @@ loop-k-preserved g c = record {
   none = λ image tells. none_yet (viewed c.args.store.now image c.args.batch.now)
       c.args.data_pages.now c.args.need c.loop-k.k c.looked_at-place.result
       c.looked_at-place.ensures.is (c.loop-k.invariant.none image tells)
-      (subst (λ (x : Option DataPage). LooksAt (viewed c.args.store.now image c.args.batch.now)
+      (subst (λ (x : Option PageNo). LooksAt (viewed c.args.store.now image c.args.batch.now)
       (get_or c.args.data_pages.now c.looked_at-place.result 0) c.args.need x) c.in_default.is
       (as_started g.D.Disk.meaning c.args.store.now c.loop-k.store image c.args.batch.now
       c.loop-k.invariant.keeps tells (λ (pages : Pages). LooksAt pages
@@ -62,7 +62,7 @@ returns-in_err-found-clause-keeps g c = keeps_on g.D.Disk.meaning g.met.D.Disk.c
     c.in_err-found.ensures.keeps
 
 pub returns-in_err-found-clause-fault : goal.returns-in_err-found-clause-fault
-returns-in_err-found-clause-fault g c = fault_up (Option DataPage) g.D.Disk.meaning c.args.store.now
+returns-in_err-found-clause-fault g c = fault_up (Option PageNo) g.D.Disk.meaning c.args.store.now
     c.loop-k.store c.page_at.new.store c.from_residual.result c.in_err-found.field-0.0
     c.loop-k.invariant.keeps c.loop-k.invariant.faults c.from_residual.ensures.0
     c.from_residual.ensures.1 c.in_err-found.ensures.fault
@@ -91,8 +91,8 @@ returns-in-Some-clause-fault g c = (
 )
 
 pub returns-in-Some-clause-room : goal.returns-in-Some-clause-room
-returns-in-Some-clause-room g c = subst (λ (x : Option DataPage). IfSome x (HasRoomFor c.args.need))
-    c.in-Some.is c.in_ok-found.ensures.room
+returns-in-Some-clause-room g c = subst (λ (x : Option PageNo). IfSome x
+    (HoldsRoom c.page_at.new.store c.args.batch.now.pages c.args.need)) c.in-Some.is c.in_ok-found.ensures.room
 
 pub returns-clause-fault : goal.returns-clause-fault
 returns-clause-fault g c = (

@@ -1,9 +1,9 @@
 use Rattle.std.proofs.Common.{Option}
+use Rattle.mg_base.specs.declared.numbers.PageNo.{PageNo}
 use Rattle.mg_space.specs.HandedLaws.{fault_same}
 use Rattle.mg_space.specs.View.{pool_answer, viewed}
 use Rattle.mg_space.specs.ViewLaws.{fault_on, keeps_on, tells_on}
 use Rattle.mg_heap.specs.Room.{RefusesRoom}
-use Rattle.mg_heap.specs.declared.growth.DataPage.{DataPage}
 use Rattle.mg_heap.proofs.HandedLemmas.{alone_read}
 use Rattle.mg_heap.proofs.LastRoomLemmas.{given_on, last_given, last_refused}
 use Rattle.mg_heap.proofs.TableLemmas.{geometry_later, handed_on, whole_before, whole_later}
@@ -13,12 +13,12 @@ pub returns-in_err-last-clause-keeps : goal.returns-in_err-last-clause-keeps
 returns-in_err-last-clause-keeps g c = c.in_err-last.ensures.keeps
 
 pub returns-in_err-last-clause-fault : goal.returns-in_err-last-clause-fault
-returns-in_err-last-clause-fault g c = fault_same (Option DataPage) g.D.Disk.meaning c.args.store.now
+returns-in_err-last-clause-fault g c = fault_same (Option PageNo) g.D.Disk.meaning c.args.store.now
     c.last_with_room.new.store c.from_residual.result c.in_err-last.field-0.0 c.from_residual.ensures.0
     c.from_residual.ensures.1 c.in_err-last.ensures.fault
 
 pub returns-in_err-last-clause-own : goal.returns-in_err-last-clause-own
-returns-in_err-last-clause-own g c = alone_read (Option DataPage) c.from_residual.result
+returns-in_err-last-clause-own g c = alone_read (Option PageNo) c.from_residual.result
     c.in_err-last.field-0.0 c.from_residual.ensures.0 c.from_residual.ensures.1
     c.in_err-last.ensures.own
 
