@@ -13,7 +13,7 @@ use Rattle.mg_exec.specs.declared.phase.Step.{Step}
 use Rattle.mg_exec.specs.declared.phase.Turn.{Turn}
 use Rattle.mg_exec.specs.Phases.{Leaves, ended}
 use Rattle.mg_exec.specs.Running.{Goes, IsPastEnd}
-use Rattle.mg_exec.specs.Starting.{Looks, Starts, Tests, TestsAny}
+use Rattle.mg_exec.specs.Starting.{Tests, TestsAny}
 use Rattle.mg_exec.proofs.FrameLemmas.{frames_none}
 
 -- ---- a step
@@ -38,23 +38,6 @@ pub end_leaves : {R P : Type 0} (m : Means R P) (r : R) (t : ℕ) (turn : Turn P
     → turn ≡ ended (Err NothingHeld) → Leaves m r r t turn
 end_leaves {P = P} m r t turn is = subst (λ (x : Turn P). Leaves m r r t x) (sym is)
     (record { frames = frames_none m r t None tt; ready = tt; calm = calm_nothing m r })
-
--- ---- how it begins
-
-pub starts_at : {R P : Type 0} (m : Means R P) (old new : R) (o : Opening) (h : Entries) (t : TxNo)
-    (read_only : Bool) (s other : Plain) (size : ℕ) (result : Result (Phase P) StatementFault) → s ≡ other
-    → Starts m old new o h t read_only other size result → Starts m old new o h t read_only s size result
-starts_at m old new o h t read_only s other size result is starts =
-    subst (λ (p : Plain). Starts m old new o h t read_only p size result) (sym is) starts
-
-pub starts_looking : {R P : Type 0} (m : Means R P) (old new : R) (o : Opening) (h : Entries) (t : TxNo)
-    (read_only : Bool) (s other : Plain) (name : List ℕ) (size : ℕ) (result : Result (Phase P) StatementFault)
-    → s ≡ other
-    → (Looks m new o h t read_only other name size result → Starts m old new o h t read_only other size result)
-    → Looks m new o h t read_only s name size result → Starts m old new o h t read_only s size result
-starts_looking m old new o h t read_only s other name size result is by looks =
-    subst (λ (p : Plain). Starts m old new o h t read_only p size result) (sym is)
-    (by (subst (λ (p : Plain). Looks m new o h t read_only p name size result) is looks))
 
 -- ---- how it is tested
 

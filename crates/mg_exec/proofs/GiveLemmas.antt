@@ -3,8 +3,7 @@ use Rattle.std.proofs.Common.{◌≡◌, ℕ, ◌&&◌, Bool, true, false, List,
 use Rattle.std.proofs.lemmas.List.{append-nil}
 use Rattle.mg_base.specs.declared.numbers.TxNo.{TxNo}
 use Rattle.mg_value.specs.declared.shape.Column.{Column}
-use Rattle.mg_statements.specs.declared.statement.Def.{Def}
-use Rattle.mg_statements.specs.Plain.{Plain, RollbackTo, Savepoint, Table as Creation, Insert, Update, Delete, Totals, Select}
+use Rattle.mg_statements.specs.Plain.{Plain, RollbackTo, Savepoint, Insert, Update, Delete, Totals, Select}
 use Rattle.mg_plan.specs.Statements.{bound_plain}
 use Rattle.mg_plan.specs.declared.bound.Bound.{Bound}
 use Rattle.mg_model.specs.declared.answer.Answer.TheVariants.{Fine, No, Rows}
@@ -32,7 +31,6 @@ use Rattle.mg_calls.specs.declared.steps.Wrote.{Wrote}
 use Rattle.mg_calls.specs.declared.steps.Wrote.TheVariants as wrote_
 use Rattle.mg_calls.specs.declared.writing.Written.TheVariants as written_
 use Rattle.mg_calls.specs.Frames.{Frames}
-use Rattle.mg_calls.specs.Quiet.{as_it_was, with_entry}
 use Rattle.mg_calls.specs.Steps.{MarksAndWrites, WritesNext}
 use Rattle.mg_calls.specs.WalkLaws.{walks_go_on, walks_stay_ready}
 use Rattle.mg_calls.specs.Writes.{ComesToNothing}
@@ -43,13 +41,12 @@ use Rattle.mg_exec.specs.declared.phase.Step.TheVariants.{Done}
 use Rattle.mg_exec.specs.declared.phase.Turn.{Turn}
 use Rattle.mg_exec.specs.Changing.{StartsToWrite, begins, makes_none, turned, with_left}
 use Rattle.mg_exec.specs.Making.{writes_made}
-use Rattle.mg_exec.specs.NewTables.{LooksForTable, is_taken}
 use Rattle.mg_exec.specs.Phases.{StandsAt, ended, is_insert, rolled_back}
 use Rattle.mg_exec.specs.Points.{Saves, SavesSo, Returns, ReturnsSo}
 use Rattle.mg_exec.specs.Reading.{Finds, GoesOnWith, answers, writes, Reads, comes_on, finds, faults, stops, find_of}
 use Rattle.mg_exec.specs.Running.{Goes}
-use Rattle.mg_exec.specs.Statements.{Asked, IsBoundTo, its_look, its_find, before_mark, marked, wrote, waited, IsWriting, entries_given_up, saved, not_saved, returned, no_savepoint, not_returned, stopped, faulted, not_found, selected, none_made, not_marked, written, undone, IsAt, Gives, Begins, StatementsGoOn, StatementsStayReady, table_named}
-use Rattle.mg_exec.specs.Starting.{IsStarted, Looks, Starts}
+use Rattle.mg_exec.specs.Statements.{Asked, IsBoundTo, its_look, its_find, before_mark, marked, wrote, waited, IsWriting, entries_given_up, saved, not_saved, returned, no_savepoint, not_returned, stopped, faulted, not_found, selected, none_made, not_marked, written, undone, IsAt, Gives, StatementsGoOn, StatementsStayReady, table_named}
+use Rattle.mg_exec.specs.Starting.{IsStarted}
 use Rattle.mg_exec.proofs.CreateLemmas.{ready_to_create}
 use Rattle.mg_exec.proofs.CreateGiveLemmas.{creating, retrying}
 use Rattle.mg_exec.proofs.EntryLemmas.{given_up, gives_behind, nothing_more, one_more, over, refused_gives, rolled_by, undone_by}
@@ -57,10 +54,6 @@ use Rattle.mg_exec.proofs.EntryLemmas.{given_up, gives_behind, nothing_more, one
 pub inside : {P : Type 0} (a b : Phase P)
     → ◌≡◌ {A = Result (Phase P) StatementFault} (Ok a) (Ok b) → a ≡ b
 inside a b is = cc
-
-no_fault : {P : Type 0} (a : Phase P) (fault : StatementFault)
-    → ◌≡◌ {A = Result (Phase P) StatementFault} (Ok a) (Err fault) → ⊥
-no_fault a fault is = absurd cc
 
 -- ---- SAVEPOINT and ROLLBACK TO
 
@@ -390,81 +383,6 @@ is_at m new o h t read_only s size (phases.Reading reading) i = (
   i.reads,
 )
 is_at m new o h t read_only s size phase i = absurd i.begins
-
-looks_give : {R P : Type 0} (m : Means R P) (new : R) (o : Opening) (h : Entries) (t : TxNo)
-    (read_only : Bool) (s : Plain) (size : ℕ) (phase : Phase P)
-    → Looks m new o h t read_only s (table_named s) size (Ok phase)
-    → Begins m new o h (record { t = t; read_only = read_only; statement = s; size = size }) phase
-looks_give m new o h t read_only s size phase (inl refused) = absurd (no_fault phase (Engine refused.0) refused.1)
-looks_give m new o h t read_only s size phase (inr looked) = record {
-  given = entry (events.Look t) Fine ∷ [];
-  lawful = (looked.0, tt);
-  quietly = with_entry (entry (events.Look t) Fine) refl as_it_was;
-  stands = looked.1.0;
-  at = is_at m new o (entry (events.Look t) Fine ∷ h) t read_only s size phase looked.1.1;
-}
-
-table_looks_give : {R P : Type 0} (m : Means R P) (new : R) (o : Opening) (h : Entries) (t : TxNo)
-    (read_only : Bool) (name : List ℕ) (columns : List Def) (size : ℕ) (phase : Phase P)
-    → LooksForTable m new o h t read_only (Creation name columns) name size (Ok phase)
-    → Begins m new o h (record { t = t; read_only = read_only; statement = Creation name columns; size = size })
-    phase
-table_looks_give m new o h t read_only name columns size phase (inl refused) =
-    absurd (no_fault phase (Engine refused.0) refused.1)
-table_looks_give m new o h t read_only name columns size (phases.Creating table) (inr looked) = record {
-  given = entry (events.Look t) Fine ∷ [];
-  lawful = (looked.0, tt);
-  quietly = with_entry (entry (events.Look t) Fine) refl as_it_was;
-  stands = looked.1.0;
-  at = (
-    record {
-      columns = columns;
-      statement = ap (λ (name : List ℕ). Creation name columns) (sym looked.1.1.planned.named);
-      may = looked.1.1.may;
-      free = subst (λ (name : List ℕ).
-          is_taken name (shape_seen o (entry (events.Look t) Fine ∷ h) t.0 name) ≡ false)
-          (sym looked.1.1.planned.named) looked.1.1.free;
-      passes = looked.1.1.planned.passes;
-      shaped = looked.1.1.planned.shaped;
-    },
-    refl,
-  );
-}
-table_looks_give m new o h t read_only name columns size phase (inr looked) = absurd looked.1
-
-pub start_gives : {R P : Type 0} (m : Means R P) (old new : R) (o : Opening) (h : Entries) (t : TxNo)
-    (read_only : Bool) (s : Plain) (size : ℕ) (phase : Phase P)
-    → Starts m old new o h t read_only s size (Ok phase)
-    → Begins m new o h (record { t = t; read_only = read_only; statement = s; size = size }) phase
-start_gives {P = P} m old new o h t read_only (Savepoint name) size phase starts = record {
-  given = [];
-  lawful = tt;
-  quietly = as_it_was;
-  stands = starts.1;
-  at = subst (λ (phase : Phase P). IsAt m new o h h
-      (record { t = t; read_only = read_only; statement = Savepoint name; size = size }) [] phase) (sym (inside phase _ starts.0)) (refl, refl);
-}
-start_gives {P = P} m old new o h t read_only (RollbackTo name) size phase starts = record {
-  given = [];
-  lawful = tt;
-  quietly = as_it_was;
-  stands = starts.1;
-  at = subst (λ (phase : Phase P). IsAt m new o h h
-      (record { t = t; read_only = read_only; statement = RollbackTo name; size = size }) [] phase) (sym (inside phase _ starts.0)) (refl, refl);
-}
-start_gives m old new o h t read_only (Creation name columns) size phase starts =
-    table_looks_give m new o h t read_only name columns size phase starts
-start_gives m old new o h t read_only (Insert table columns values) size phase starts =
-    looks_give m new o h t read_only (Insert table columns values) size phase starts
-start_gives m old new o h t read_only (Update table sets filter) size phase starts =
-    looks_give m new o h t read_only (Update table sets filter) size phase starts
-start_gives m old new o h t read_only (Delete table filter) size phase starts =
-    looks_give m new o h t read_only (Delete table filter) size phase starts
-start_gives m old new o h t read_only (Totals table totals filter) size phase starts =
-    looks_give m new o h t read_only (Totals table totals filter) size phase starts
-start_gives m old new o h t read_only (Select table values filter sorted) size phase starts =
-    looks_give m new o h t read_only (Select table values filter sorted) size phase starts
-start_gives m old new o h t read_only s size phase starts = absurd starts
 
 -- ---- calls for others between two steps
 

@@ -1,5 +1,5 @@
 -- What is tested of CREATE TABLE before its mark.
-use Rattle.std.specs.Prelude.{◌≡◌, ◌⊎◌, ℕ, ◌||◌, Bool, true, false, List, [], ◌∷◌, All, Option, Some, None, is_some, Result, Ok, Err}
+use Rattle.std.specs.Prelude.{◌≡◌, ◌⊎◌, ℕ, ◌||◌, Bool, true, false, List, [], All, Option, Some, None, is_some, Result, Ok, Err}
 use Rattle.mg_base.specs.declared.numbers.TxNo.{TxNo}
 use Rattle.mg_value.specs.Names.{IsName}
 use Rattle.mg_value.specs.declared.shape.Shape.{Shape}
@@ -9,15 +9,12 @@ use Rattle.mg_plan.specs.declared.fault.PlanFault.{PlanFault}
 use Rattle.mg_plan.specs.declared.fault.PlanFault.TheVariants as plans
 use Rattle.mg_plan.specs.Refusing.{first_refusal}
 use Rattle.mg_plan.specs.Shapes.{shape_of}
-use Rattle.mg_model.specs.declared.answer.Answer.TheVariants.{Fine, No}
-use Rattle.mg_model.specs.declared.event.Event.TheVariants.{Look}
 use Rattle.mg_model.specs.declared.opening.Opening.{Opening}
 use Rattle.mg_model.specs.declared.refusal.Refusal.{Refusal}
 use Rattle.mg_model.specs.declared.refusal.Refusal.TheVariants.{ReadOnly, NoTable, TableExists, Memory}
 use Rattle.mg_model.specs.Catalog.{catalog_name}
 use Rattle.mg_model.specs.Changes.{same_name}
-use Rattle.mg_model.specs.History.{Entries, entry}
-use Rattle.mg_model.specs.Legal.{IsLawful}
+use Rattle.mg_model.specs.History.{Entries}
 use Rattle.mg_records.specs.Adding.{IsRefused}
 use Rattle.mg_records.specs.Meaning.{Means}
 use Rattle.mg_records.specs.Reading.{shape_seen}
@@ -25,7 +22,6 @@ use Rattle.mg_records.specs.Writing.{IsOfLength}
 use Rattle.mg_rows.specs.declared.statement_fault.StatementFault.{StatementFault}
 use Rattle.mg_rows.specs.declared.statement_fault.StatementFault.TheVariants.{Engine}
 use Rattle.mg_rows.specs.Faults.{of_plan}
-use Rattle.mg_calls.specs.Writes.{Comes}
 use Rattle.mg_exec.specs.declared.phase.NewTable.{NewTable}
 use Rattle.mg_exec.specs.declared.phase.Phase.{Phase}
 use Rattle.mg_exec.specs.declared.phase.Phase.TheVariants as phases
@@ -104,11 +100,3 @@ TestsTable m new o h t read_only s name size (Ok (phases.Creating table)) =
 TestsTable m new o h t read_only s name size (Ok phase) = ⊥
 TestsTable m new o h t read_only s name size (Err fault) =
     m.stands new o h × IsWhyNoTable o h t.0 read_only s name size fault
-
--- It begins with its `Look`; where that is refused, it is.
-abbrev pub LooksForTable : {R P : Type 0} → Means R P → R → Opening → Entries → TxNo → Bool → Plain
-    → List ℕ → ℕ → Result (Phase P) StatementFault → Type 0
-LooksForTable m new o h t read_only s name size result =
-    ((refusal : Refusal) × (result ≡ Err (Engine refusal)) × Comes m new o h (Look t) (No refusal))
-    ⊎ (IsLawful o h (entry (Look t) Fine)
-    × TestsTable m new o (entry (Look t) Fine ∷ h) t read_only s name size result)

@@ -1,29 +1,25 @@
 -- What is tested of a statement before a row is read.
-use Rattle.std.specs.Prelude.{◌≡◌, ◌⊎◌, ℕ, Bool, true, false, List, [], ◌∷◌, Option, Some, None, Result, Ok, Err}
+use Rattle.std.specs.Prelude.{◌≡◌, ℕ, Bool, true, false, List, [], Option, Some, None, Result, Ok, Err}
 use Rattle.mg_base.specs.declared.numbers.TxNo.{TxNo}
 use Rattle.mg_value.specs.declared.shape.Shape.{Shape}
 use Rattle.mg_statements.specs.Plain.{Plain, plain_of, RollbackTo, Savepoint, Table as Creation, Insert, Update, Delete, Totals, Select}
 use Rattle.mg_plan.specs.declared.bound.Bound.{Bound}
 use Rattle.mg_plan.specs.declared.fault.PlanFault.{PlanFault}
 use Rattle.mg_plan.specs.Refusing.{first_refusal, IsBoundAs}
-use Rattle.mg_model.specs.declared.answer.Answer.TheVariants.{Fine, No}
-use Rattle.mg_model.specs.declared.event.Event.TheVariants.{Look}
 use Rattle.mg_model.specs.declared.opening.Opening.{Opening}
 use Rattle.mg_model.specs.declared.refusal.Refusal.{Refusal}
 use Rattle.mg_model.specs.declared.refusal.Refusal.TheVariants.{ReadOnly, NoTable, Memory}
 use Rattle.mg_model.specs.declared.table.Table.{Table}
-use Rattle.mg_model.specs.History.{Entries, entry}
-use Rattle.mg_model.specs.Legal.{IsLawful}
+use Rattle.mg_model.specs.History.{Entries}
 use Rattle.mg_records.specs.Adding.{IsRefused}
 use Rattle.mg_records.specs.Meaning.{Means}
 use Rattle.mg_records.specs.Reading.{shape_seen}
 use Rattle.mg_rows.specs.declared.statement_fault.StatementFault.{StatementFault}
 use Rattle.mg_rows.specs.declared.statement_fault.StatementFault.TheVariants.{Engine}
 use Rattle.mg_rows.specs.Faults.{of_plan}
-use Rattle.mg_calls.specs.Writes.{Comes}
 use Rattle.mg_exec.specs.declared.phase.Phase.{Phase}
 use Rattle.mg_exec.specs.declared.phase.Phase.TheVariants as phases
-use Rattle.mg_exec.specs.NewTables.{CreatesTable, LooksForTable, TestsTable}
+use Rattle.mg_exec.specs.NewTables.{CreatesTable, TestsTable}
 use Rattle.mg_exec.specs.Phases.{StandsAt, is_insert, may_not_write}
 
 -- a statement that has rows of a table
@@ -113,36 +109,7 @@ TestsAny m new o h t read_only (Select table values filter sorted) size result =
     Tests m new o h t read_only (Select table values filter sorted) table size result
 TestsAny m new o h t read_only s size result = ⊥
 
--- A statement of a table begins with its `Look`; where that is refused, the statement is.
-abbrev pub Looks : {R P : Type 0} → Means R P → R → Opening → Entries → TxNo → Bool → Plain → List ℕ
-    → ℕ → Result (Phase P) StatementFault → Type 0
-Looks m new o h t read_only s name size result =
-    ((refusal : Refusal) × (result ≡ Err (Engine refusal)) × Comes m new o h (Look t) (No refusal))
-    ⊎ (IsLawful o h (entry (Look t) Fine)
-    × Tests m new o (entry (Look t) Fine ∷ h) t read_only s name size result)
-
 -- the refusal of the keeper that is answered
 abbrev pub refusal_at : {T : Type 0} → Result T StatementFault → Option Refusal
 refusal_at (Err (Engine refusal)) = Some refusal
 refusal_at result = None
-
--- How a statement begins. A savepoint is set, or gone back to, by the first step alone.
-abbrev pub Starts : {R P : Type 0} → Means R P → R → R → Opening → Entries → TxNo → Bool → Plain → ℕ
-    → Result (Phase P) StatementFault → Type 0
-Starts m old new o h t read_only (Savepoint name) size result =
-    (result ≡ Ok (phases.Saving name)) × m.stands new o h
-Starts m old new o h t read_only (RollbackTo name) size result =
-    (result ≡ Ok (phases.Returning name)) × m.stands new o h
-Starts m old new o h t read_only (Creation name columns) size result =
-    LooksForTable m new o h t read_only (Creation name columns) name size result
-Starts m old new o h t read_only (Insert table columns values) size result =
-    Looks m new o h t read_only (Insert table columns values) table size result
-Starts m old new o h t read_only (Update table sets filter) size result =
-    Looks m new o h t read_only (Update table sets filter) table size result
-Starts m old new o h t read_only (Delete table filter) size result =
-    Looks m new o h t read_only (Delete table filter) table size result
-Starts m old new o h t read_only (Totals table totals filter) size result =
-    Looks m new o h t read_only (Totals table totals filter) table size result
-Starts m old new o h t read_only (Select table values filter sorted) size result =
-    Looks m new o h t read_only (Select table values filter sorted) table size result
-Starts m old new o h t read_only s size result = ⊥

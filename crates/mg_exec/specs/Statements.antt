@@ -271,15 +271,6 @@ pub record Gives {R P : Type 0} (m : Means R P) (new : R) (o : Opening) (looked 
   pub so : StandsSo m new o looked (more ++ h) a (more ++ given) turn.phase turn.answer
   pub goes_on : is_over turn.phase ≡ false → LetsGoOn more turn.answer
 
--- Where a statement begins: it has given its `Look`, if it has a table, and stands at its first step.
-pub record Begins {R P : Type 0} (m : Means R P) (new : R) (o : Opening) (h : Entries) (a : Asked)
-    (phase : Phase P) : Type 0 where
-  pub given : Entries
-  pub lawful : AreLawful o h given
-  pub quietly : IsQuietly h (given ++ h)
-  pub stands : m.stands new o (given ++ h)
-  pub at : IsAt m new o (given ++ h) (given ++ h) a given phase
-
 -- the `Look` of a statement that looks: one of a table, or CREATE TABLE
 abbrev pub look_in : Asked → Plain → Entries
 look_in a (Savepoint name) = []

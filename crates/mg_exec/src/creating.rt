@@ -13,7 +13,7 @@ ghost use Rattle.mg_plan.specs.Statements.{count_defined};
 ghost use Rattle.mg_calls.specs.Frames.{Frames};
 ghost use Rattle.mg_calls.specs.Quiet.{AreQuiet};
 ghost use Rattle.mg_exec.specs.Creating.{Creates, Retries, turned_table};
-ghost use Rattle.mg_exec.specs.NewTables.{CreatesTable, LooksForTable, Plans, PlansPhase, TestsTable, columns_defined, is_missing as is_missing_test};
+ghost use Rattle.mg_exec.specs.NewTables.{CreatesTable, Plans, PlansPhase, TestsTable, columns_defined, is_missing as is_missing_test};
 ghost use Rattle.mg_exec.specs.Phases.{IsReady, IsReadyToCreate, Leaves, rolled_back_at};
 ghost use Rattle.mg_exec.specs.Progress.{IsAtEnd};
 ghost use Rattle.mg_exec.specs.Starting.{refusal_at};
@@ -126,32 +126,6 @@ where
         return plan(alloc, s, name, size);
     }
     Err(StatementFault::Engine(refusal))
-}
-
-/// Begins CREATE TABLE: it looks, and is tested.
-pub fn look_for_table<R: Records>(
-    r: &mut R,
-    alloc: Global,
-    t: TxNo,
-    read_only: bool,
-    s: &Statement,
-    name: &Name,
-    size: u32,
-) -> Result<Phase<R::Place>, StatementFault>
-where
-    R::Place: Drop,
-    requires creates { CreatesTable (plain_of s.now) }
-    requires pages { R.meaning.is_size r.old size ≡ true }
-    ensures looks { (o : Opening) (h : Entries) → R.meaning.stands r.old o h
-        → LooksForTable R.meaning r.new o h t read_only (plain_of s.now) name.now size result }
-    ensures ready { IfOk result (λ phase. IsReady R.meaning r.new t.0 phase) }
-    ensures frames { Frames R.meaning r.old r.new t.0 (refusal_at result) }
-    ensures quiet { AreQuiet R.meaning r.old r.new None }
-{
-    match r.look(t) {
-        Ok(()) => test_table(r, alloc, t, read_only, s, name, size),
-        Err(refusal) => Err(StatementFault::Engine(refusal)),
-    }
 }
 
 /// Where CREATE TABLE stands after its table was to be made.

@@ -1,6 +1,6 @@
 //! The steps of statements over any keeper of records.
 //!
-//! Owns: `Run`, a statement of a transaction that runs in steps (`Run::start`, `Run::step`), `Step`,
+//! Owns: `Run`, a statement of a transaction that runs in steps (`Run::test`, `Run::step`), `Step`,
 //! what a step came to, and the steps of each kind of statement: the tests before a row is read
 //! (`look_and_test`), the reading (`read`), the writes that are made of the rows found (`make_writes`)
 //! and written one a step (`start_to_write`, `change`), what a SELECT answers (`answer`), savepoints

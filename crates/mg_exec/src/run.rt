@@ -1,6 +1,6 @@
 //! A statement that runs in steps.
 
-ghost use Rattle.std.specs.Prelude.{◌≡◌, ◌+◌, [], true, None, Ok, Err, IfOk, MatchResult, length};
+ghost use Rattle.std.specs.Prelude.{◌≡◌, [], true, None, Ok, Err, IfOk, MatchResult};
 ghost use Rattle.std.specs.Option.{option_copied};
 ghost use Rattle.mg_model.specs.declared.opening.Opening.{Opening};
 ghost use Rattle.mg_model.specs.History.{Entries};
@@ -10,17 +10,17 @@ ghost use Rattle.mg_calls.specs.Quiet.{AreQuiet, IsQuietAt};
 ghost use Rattle.mg_exec.specs.Phases.{IsReady, IsReadyToInsert, Leaves, StandsAt, rolled_back_at};
 ghost use Rattle.mg_exec.specs.Progress.{IsBehind, Nears};
 ghost use Rattle.mg_exec.specs.Changing.{StartsToWrite};
-ghost use Rattle.mg_exec.specs.Starting.{Runs, Starts, TestsAny, refusal_at};
+ghost use Rattle.mg_exec.specs.Starting.{Runs, TestsAny, refusal_at};
 ghost use Rattle.mg_exec.specs.Running.{Goes, IsPastEnd, is_rolled_back_at, table_at, place_at};
-ghost use Rattle.mg_exec.specs.Statements.{Asked, Begins, BeginsTested, Gives, IsAt};
+ghost use Rattle.mg_exec.specs.Statements.{Asked, BeginsTested, Gives, IsAt};
 
 use crate::changing::{change, start_to_write};
-use crate::creating::{create, look_for_table, retry, test_table};
+use crate::creating::{create, retry, test_table};
 use crate::ending::ended;
 use crate::phase::{Inserting, Phase, Step, Turn};
 use crate::points::{go_back, save};
 use crate::reading::read;
-use crate::starting::{look_and_test, test};
+use crate::starting::test;
 use mg_base::TxNo;
 use mg_model::Table;
 use mg_plan::let_go;
@@ -38,38 +38,6 @@ pub struct Run<R: Records> {
     pub t: TxNo,
     /// Where it stands.
     pub phase: Phase<R::Place>,
-}
-
-/// Where a statement begins. One that has a table, or makes one, looks, and is tested.
-fn begin<R: Records>(
-    r: &mut R,
-    alloc: Global,
-    t: TxNo,
-    read_only: bool,
-    s: &Statement,
-    size: u32,
-) -> Result<Phase<R::Place>, StatementFault>
-where
-    R::Place: Drop,
-    requires runs { Runs (plain_of s.now) }
-    requires pages { R.meaning.is_size r.old size ≡ true }
-    ensures starts { (o : Opening) (h : Entries) → R.meaning.stands r.old o h
-        → Starts R.meaning r.old r.new o h t read_only (plain_of s.now) size result }
-    ensures ready { IfOk result (λ phase. IsReady R.meaning r.new t.0 phase) }
-    ensures frames { Frames R.meaning r.old r.new t.0 (refusal_at result) }
-    ensures quiet { AreQuiet R.meaning r.old r.new None }
-{
-    match s {
-        Statement::Savepoint { name } => Ok(Phase::Saving(*name)),
-        Statement::RollbackTo { name } => Ok(Phase::Returning(*name)),
-        Statement::Table { name, .. } => look_for_table(r, alloc, t, read_only, s, name, size),
-        Statement::Insert { table, .. } => look_and_test(r, alloc, t, read_only, s, table, size),
-        Statement::Update { table, .. } => look_and_test(r, alloc, t, read_only, s, table, size),
-        Statement::Delete { table, .. } => look_and_test(r, alloc, t, read_only, s, table, size),
-        Statement::Totals { table, .. } => look_and_test(r, alloc, t, read_only, s, table, size),
-        Statement::Select { table, .. } => look_and_test(r, alloc, t, read_only, s, table, size),
-        _ => Err(StatementFault::NothingHeld),
-    }
 }
 
 /// Tests a statement that has looked, if it is one that looks, and where it begins.
@@ -148,55 +116,15 @@ where
 }
 
 impl<R: Records> Run<R> {
-    /// Begins a statement of a transaction; `size` is the page size in bytes, and `read_only` says
-    /// whether the transaction may not write. A statement that has a table, or makes one, looks, and is
-    /// tested with all that depends on no row. Of statements that begin or end a transaction there is
-    /// none. The lengths of a new table's texts are those that the grammar has.
+    /// Tests a statement of a transaction that has looked, if it is one that looks, with all that depends on no row, and
+    /// begins it. No event is given. `size` is the page size in bytes, and `read_only` says whether the transaction may
+    /// not write. Of statements that begin or end a transaction there is none. The lengths of a new table's texts are
+    /// those that the grammar has.
     ///
     /// # Errors
     ///
-    /// `ReadOnly`; `NoTable`, or `TableExists` where it makes one; or the first refusal of its binding,
-    /// in this order; or a refusal of the keeper.
-    pub fn start(
-        r: &mut R,
-        alloc: Global,
-        t: TxNo,
-        read_only: bool,
-        s: &Statement,
-        size: u32,
-    ) -> Result<Run<R>, StatementFault>
-    where
-        R::Place: Drop,
-        requires runs { Runs (plain_of s.now) }
-        requires pages { R.meaning.is_size r.old size ≡ true }
-        ensures starts { (o : Opening) (h : Entries) → R.meaning.stands r.old o h
-            → MatchResult result
-            (λ run. Starts R.meaning r.old r.new o h t read_only (plain_of s.now) size (Ok run.phase))
-            (λ fault. Starts R.meaning r.old r.new o h t read_only (plain_of s.now) size (Err fault)) }
-        ensures begins { (o : Opening) (h : Entries) → R.meaning.stands r.old o h
-            → IfOk result (λ run. Begins R.meaning r.new o h (record {
-              t = t;
-              read_only = read_only;
-              statement = plain_of s.now;
-              size = size;
-            }) run.phase) }
-        ensures ready { IfOk result (λ run. IsReady R.meaning r.new t.0 run.phase) }
-        ensures number { IfOk result (λ run. run.t ≡ t) }
-        ensures frames { Frames R.meaning r.old r.new t.0 (refusal_at result) }
-        ensures quiet { AreQuiet R.meaning r.old r.new None }
-    {
-        match begin(r, alloc, t, read_only, s, size) {
-            Ok(phase) => Ok(Run { alloc, t, phase }),
-            Err(fault) => Err(fault),
-        }
-    }
-
-    /// Tests a statement of a transaction that has looked, if it is one that looks, and begins it: what `start` does
-    /// without the `Look`. No event is given.
-    ///
-    /// # Errors
-    ///
-    /// As `start`, of its tests.
+    /// `ReadOnly`; `NoTable`, or `TableExists` where it makes one; or the first refusal of its binding, in this order; or
+    /// a refusal of the keeper.
     pub fn test(
         r: &mut R,
         alloc: Global,

@@ -9,7 +9,7 @@ ghost use Rattle.mg_statements.specs.Plain.{plain_of};
 ghost use Rattle.mg_calls.specs.Frames.{Frames};
 ghost use Rattle.mg_calls.specs.Quiet.{AreQuiet};
 ghost use Rattle.mg_exec.specs.Phases.{IsReady, StandsAt, may_not_write};
-ghost use Rattle.mg_exec.specs.Starting.{HasRows, IsBegun, Looks, Tests, refusal_at};
+ghost use Rattle.mg_exec.specs.Starting.{HasRows, IsBegun, Tests, refusal_at};
 
 use crate::parts::{is_insert, is_writing};
 use crate::phase::{Inserting, Phase, Reading};
@@ -74,28 +74,5 @@ pub fn test<R: Records>(
     match bind(alloc, s, Some(&table), size) {
         Ok(bound) => Ok(begin(r, alloc, table, bound)),
         Err(fault) => Err(StatementFault::from(fault)),
-    }
-}
-
-/// Begins a statement of a table: it looks, and is tested.
-pub fn look_and_test<R: Records>(
-    r: &mut R,
-    alloc: Global,
-    t: TxNo,
-    read_only: bool,
-    s: &Statement,
-    name: &Name,
-    size: u32,
-) -> Result<Phase<R::Place>, StatementFault>
-    requires rows { HasRows (plain_of s.now) }
-    ensures looks { (o : Opening) (h : Entries) → R.meaning.stands r.old o h
-        → Looks R.meaning r.new o h t read_only (plain_of s.now) name.now size result }
-    ensures ready { IfOk result (λ phase. IsReady R.meaning r.new t.0 phase) }
-    ensures frames { Frames R.meaning r.old r.new t.0 (refusal_at result) }
-    ensures quiet { AreQuiet R.meaning r.old r.new None }
-{
-    match r.look(t) {
-        Ok(()) => test(r, alloc, t, read_only, s, name, size),
-        Err(refusal) => Err(StatementFault::Engine(refusal)),
     }
 }
