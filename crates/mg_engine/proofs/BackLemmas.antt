@@ -1,19 +1,12 @@
 -- A transaction is taken back: what the core's calls leave of it is what they leave of the engine.
-use Rattle.std.proofs.Common.{◌≡◌, ◌<◌, ◌^◌, ℕ, Bool, List, Ok, Result, arith, false, subst}
-use Rattle.std.specs.Prelude.{IfOk}
+use Rattle.std.proofs.Common.{◌≡◌, ◌<◌, ◌^◌, ℕ, Bool, List, Result, arith, subst}
 use Rattle.mg_base.specs.Disk.{Meaning}
 use Rattle.mg_base.specs.declared.numbers.TxNo.{TxNo}
-use Rattle.mg_base.specs.declared.memory.Memory.{Memory}
 use Rattle.mg_core.specs.declared.parts.Core.{Core}
 use Rattle.mg_model.specs.declared.refusal.Refusal.{Refusal}
 use Rattle.mg_engine_changes.specs.memory.Notes.{AreCounts}
 use Rattle.mg_engine_changes.specs.backs.Outcomes.{IsBack, IsUndone}
 use Rattle.mg_engine_meaning.specs.Meaning.{Places}
-
--- what is told where the answer is no
-pub told_no : (result : Result Bool Memory) (answer : Bool) (P : Bool → Type 0) → IfOk result P → result ≡ Ok answer
-    → answer ≡ false → P false
-told_no result answer P told is off = subst P off (subst (λ (r : Result Bool Memory). IfOk r P) is told)
 
 pub counted : {D : Type 0} (core : Core D) → core.damage < 2 ^ 64 → core.shortages < 2 ^ 64 → AreCounts core
 counted core damage shortages = record { damage = omega (arith, damage); shortages = omega (arith, shortages) }

@@ -2,7 +2,7 @@
 
 ghost use Rattle.mg_core.specs.Cores.{IsCore};
 ghost use Rattle.mg_engine_changes.specs.memory.Notes.{AreCounts};
-ghost use Rattle.mg_engine_changes.specs.backs.Outcomes.{IsBack, IsRolledShort, IsUndone};
+ghost use Rattle.mg_engine_changes.specs.backs.Outcomes.{IsBack, IsUndone};
 ghost use Rattle.mg_engine_changes.specs.faults.Told.{TellsFaults};
 ghost use Rattle.mg_no_damage.specs.Stands.{DamageStands};
 ghost use Rattle.mg_no_damage.specs.FewPages.{RoomStandsBack};
@@ -17,14 +17,13 @@ use mg_engine_changes::{backs_give, backs_give_over, backs_tell_faults};
 use mg_model::Refusal;
 use mg_no_damage::{
     backs_meet_no_damage, backs_over_meet_no_damage, backs_over_take_few, backs_take_few,
-    events_take_none,
 };
 use mg_table_takings::{back_over_tables, undo_tables_to_mark};
 use mg_taking_back::{back_to, takes_tables_to_mark, takes_tables_to_savepoint, undo_mark};
 use mg_value::Name;
 
 /// Takes a transaction back to its last mark: key by key, and where it has made tables since, with their rows of the
-/// catalog in one batch. Where memory is wanting to tell, it is rolled back.
+/// catalog in one batch.
 ///
 /// # Errors
 ///
@@ -45,12 +44,10 @@ pub(crate) fn take_to_mark<D: Disk>(core: &mut Core<D>, t: TxNo) -> Result<(), R
     backs_over_meet_no_damage::<D>();
     backs_take_few::<D>();
     backs_over_take_few::<D>();
-    events_take_none::<D>();
-    match takes_tables_to_mark(core, t) {
-        Ok(true) => undo_tables_to_mark(core, t),
-        Ok(false) => undo_mark(core, t),
-        Err(_) => Err(roll_back(core, t)),
+    if takes_tables_to_mark(core, t) {
+        return undo_tables_to_mark(core, t);
     }
+    undo_mark(core, t)
 }
 
 /// Takes a transaction back to its last savepoint of a name, as `take_to_mark` does to a mark.
@@ -78,22 +75,8 @@ pub(crate) fn take_to_savepoint<D: Disk>(
     backs_over_meet_no_damage::<D>();
     backs_take_few::<D>();
     backs_over_take_few::<D>();
-    events_take_none::<D>();
-    match takes_tables_to_savepoint(core, t, name) {
-        Ok(true) => back_over_tables(core, t, name),
-        Ok(false) => back_to(core, t, name),
-        Err(_) => Err(roll_back(core, t)),
+    if takes_tables_to_savepoint(core, t, name) {
+        return back_over_tables(core, t, name);
     }
-}
-
-/// Rolls a transaction back, as one that can't be taken back for want of memory.
-fn roll_back<D: Disk>(core: &mut Core<D>, t: TxNo) -> Refusal
-    requires core { IsCore D.meaning core.old }
-    ensures core { IsCore D.meaning core.new }
-    ensures rolled { IsRolledShort core.old core.new t.0 result }
-{
-    match core.rollback(t) {
-        Ok(()) => Refusal::Memory,
-        Err(refusal) => refusal,
-    }
+    back_to(core, t, name)
 }

@@ -19,9 +19,8 @@
 //!   wanting for a copy of the list (`ShortLaws`). Or a step is refused after some keys (`StopsAfter`, which `Stopped`
 //!   gives for these calls): pages were read, and the transaction is rolled back (`StoppedLaws`); or a page write failed
 //!   (`FailedLaws`), after which memory is as it was and crashes leave the history (`Overlays`). Without the savepoint nothing has changed.
-//!   `CatalogLaws` goes from the list in memory to the changes of the history. And a call which gives the transaction up
-//!   without a change taken back owes no more (`ShortMarksGive`, `ShortSavepointsGive`). Each session has one active
-//!   transaction at most after each of them.
+//!   `CatalogLaws` goes from the list in memory to the changes of the history. Each session has one active transaction
+//!   at most after each of them.
 //!
 //! All stands in `specs/`. There is no program here: each function does nothing, and its contract is a law.
 //!

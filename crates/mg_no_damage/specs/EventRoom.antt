@@ -1,5 +1,5 @@
 -- Calls that write no row take no page: memory changes alone, pages are read, or dirty pages are written.
-use Rattle.std.proofs.Common.{◌≡◌, ◌∙◌, inl, inr, ◌≤◌, ◌*◌, ℕ, Bool, true, false, List, Option, None, Some, Ok, Err, refl, sym, ap, subst, arith}
+use Rattle.std.proofs.Common.{◌≡◌, ◌∙◌, inl, inr, ◌≤◌, ℕ, Bool, true, false, List, Option, None, Some, Ok, Err, refl, sym, ap, subst, arith}
 use Rattle.std.specs.Prelude.{unwrap_or}
 use Rattle.mg_base.specs.Disk.{Meaning}
 use Rattle.mg_base.specs.Image.{page_at}
@@ -12,12 +12,10 @@ use Rattle.mg_core.specs.Tables.{by_call, by_fault, by_lack, by_memory}
 use Rattle.mg_heap.specs.Reading.{ReadsData}
 use Rattle.mg_model.specs.declared.refusal.Refusal.{Refusal}
 use Rattle.mg_model.specs.declared.refusal.Refusal.TheVariants as refusals
-use Rattle.mg_model.specs.Machine.{steps as steps_of}
 use Rattle.mg_pool.specs.Dirty.{DirtyPages, content_of}
 use Rattle.mg_pool.specs.Pool.{shown}
 use Rattle.mg_pool.specs.declared.fault.PoolFault.TheVariants as faults
 use Rattle.mg_pool.specs.declared.pool.Pool.{Pool}
-use Rattle.mg_records.specs.Room.{pages_of_row, records_back}
 use Rattle.mg_space.specs.View.{KeepsStore, Tells}
 use Rattle.mg_space.specs.declared.fault.SpaceFault.{SpaceFault}
 use Rattle.mg_space.specs.declared.links.FireLinks.{FireLinks}
@@ -26,8 +24,8 @@ use Rattle.mg_no_damage.specs.CoreSpending.{IsNoWant}
 use Rattle.mg_no_damage.specs.CoreSpendingLaws.{memory_other, refused_by, told_full}
 use Rattle.mg_free_pages.specs.DrawSpending.{left_spends, written_spends}
 use Rattle.mg_no_damage.specs.FewPages.{CoreTakes}
-use Rattle.mg_no_damage.specs.FewPagesCalls.{AsksTakeNone, FoundsTakeNone, LooksTakeNone, PageWritesTakeNone, PointsTakeNone, RollbacksTakeNone, RolledTakeNone, StepsTakeNone, TablesTakeNone, VisitsTakeNone}
-use Rattle.mg_no_damage.specs.FewPagesLaws.{WantsNone, room_alike, room_kept, room_none, room_up}
+use Rattle.mg_no_damage.specs.FewPagesCalls.{AsksTakeNone, FoundsTakeNone, LooksTakeNone, PageWritesTakeNone, PointsTakeNone, RollbacksTakeNone, StepsTakeNone, TablesTakeNone, VisitsTakeNone}
+use Rattle.mg_no_damage.specs.FewPagesLaws.{WantsNone, room_alike, room_kept, room_none}
 use Rattle.mg_free_pages.specs.Spending.{ToldAreHeld}
 
 -- what a reading is refused for is no want of pages
@@ -36,9 +34,6 @@ unread : (fault : SpaceFault) (refusal : Refusal) → IsRefusal fault refusal �
 unread fault refusal is own limit full =
     let for_want = told_full fault refusal limit is full in
     subst (λ (f : SpaceFault). ReadsData {T = Unit {0}} (Err f)) for_want.1 own
-
-least : (most : ℕ) → 0 ≤ most
-least most = omega arith
 
 -- the pages of an engine, with their cache
 abbrev store_of : {D : Type 0} → Core D → Pool D FireLinks
@@ -80,15 +75,6 @@ module _ {D : Type 0} (m : Meaning D) where
   founds old new t (Ok x) wait continues o h stands told = room_kept m old new None (ap store_of wait.same) tt
   founds old new t (Err refusal) wait refuses o h stands told =
       stays old new t refusal refuses (ap store_of wait.same)
-
-  pub rolled : RolledTakeNone D m
-  rolled old new t point refusal (inl rolls) o h stands told = room_up m old new (Some refusal) 0
-      (pages_of_row * records_back t point (steps_of o h)) (least (pages_of_row * records_back t point (steps_of o h)))
-      (room_kept m old new (Some refusal) (ap store_of rolls.0.same) (λ limit full.
-      let both : refusals.Memory ≡ refusals.DatabaseFull limit = sym rolls.1 ∙ full in absurd cc))
-  rolled old new t point refusal (inr is) o h stands told = room_up m old new (Some refusal) 0
-      (pages_of_row * records_back t point (steps_of o h)) (least (pages_of_row * records_back t point (steps_of o h)))
-      (refused old new t refusal is)
 
   -- ---- pages are read
 

@@ -25,7 +25,6 @@ use Rattle.mg_core.specs.Events.{EndsWait, IsRefused, Looks, RollsBack, SetsPoin
 use Rattle.mg_core.specs.Scanning.{Scans}
 use Rattle.mg_core.specs.Tables.{AnswersTable}
 use Rattle.mg_engine_changes.specs.tables.MakingSteps.{MayHave}
-use Rattle.mg_engine_changes.specs.backs.Outcomes.{IsRolledShort}
 use Rattle.mg_engine_meaning.specs.Meaning.{Places}
 use Rattle.mg_table_making.specs.Creating.{CreatesTable, FailsCreation}
 use Rattle.mg_table_takings.specs.Takings.{FailsTablesTo, GoesBackOver, TakesTablesTo}
@@ -62,11 +61,6 @@ RollbacksTakeNone D m = (old new : Core D) (t : ℕ) (result : Result (Unit {0})
 abbrev pub FoundsTakeNone : (D : Type 0) → Meaning D → Type 0
 FoundsTakeNone D m = (old new : Core D) (t : ℕ) (result : Result (Unit {0}) Refusal) → EndsWait old new t
     → MatchResult result (λ _. Continues old t) (RefusesCall old t) → RoomStands m old new (refusal_in result) 0
-
--- a transaction is given up before a record is taken back with it to a point, since memory is wanting
-abbrev pub RolledTakeNone : (D : Type 0) → Meaning D → Type 0
-RolledTakeNone D m = (old new : Core D) (t : ℕ) (point : Point) (refusal : Refusal) → IsRolledShort old new t refusal
-    → RoomStandsBack m old new (Some refusal) t point
 
 -- ---- pages are read
 

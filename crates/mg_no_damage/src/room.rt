@@ -1,7 +1,7 @@
 //! How many of the free pages the calls of an engine take, and that they are refused for want of pages only where
 //! fewer are free.
 
-ghost use Rattle.mg_no_damage.specs.FewPagesCalls.{AsksTakeNone, BeginsTakeFew, CommitsTakeNone, CreationsTakeFew, FoundsTakeNone, LooksTakeNone, MarksOverTakeFew, MarksTakeFew, PageWritesTakeNone, PointsTakeNone, RollbacksTakeNone, RolledTakeNone, SavepointsOverTakeFew, SavepointsTakeFew, StepsTakeNone, TablesTakeNone, VisitsTakeNone, WritesTakeFew};
+ghost use Rattle.mg_no_damage.specs.FewPagesCalls.{AsksTakeNone, BeginsTakeFew, CommitsTakeNone, CreationsTakeFew, FoundsTakeNone, LooksTakeNone, MarksOverTakeFew, MarksTakeFew, PageWritesTakeNone, PointsTakeNone, RollbacksTakeNone, SavepointsOverTakeFew, SavepointsTakeFew, StepsTakeNone, TablesTakeNone, VisitsTakeNone, WritesTakeFew};
 ghost use Rattle.mg_no_damage.specs.FewPagesLaws.{KnowsRoom};
 ghost use Rattle.mg_no_damage.specs.GivenCounts.{KnowsGiven};
 
@@ -30,14 +30,12 @@ pub fn begins_take_few<D: Disk>()
     pages_are_taken();
 }
 
-/// Events that change what is in memory alone take no page, and are not refused for want of pages; neither is a
-/// transaction that is given up, since memory is wanting, before a record is taken back with it.
+/// Events that change what is in memory alone take no page, and are not refused for want of pages.
 pub fn events_take_none<D: Disk>()
     ensures looks { LooksTakeNone D D.meaning }
     ensures founds { FoundsTakeNone D D.meaning }
     ensures points { PointsTakeNone D D.meaning }
     ensures rollbacks { RollbacksTakeNone D D.meaning }
-    ensures rolled { RolledTakeNone D D.meaning }
 {}
 
 /// So it is of what a transaction reads.

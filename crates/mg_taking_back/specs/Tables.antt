@@ -1,21 +1,10 @@
 -- Whether a transaction that is taken back takes back changes of the catalog.
-use Rattle.std.specs.Prelude.{◌≡◌, ◌==◌, ◌||◌, ℕ, Bool, false, List, [], ◌∷◌}
+use Rattle.std.specs.Prelude.{ℕ, Bool}
 use Rattle.mg_core.specs.declared.parts.Core.{Core}
 use Rattle.mg_model.specs.declared.change.Point.{Point}
 use Rattle.mg_taking_back.specs.Taking.{IsUndoOf, MayReach}
 use Rattle.mg_undo.specs.Machine.{going_to}
-use Rattle.mg_undo.specs.Undo.{State as Undo, TakesBack}
-use Rattle.mg_undo.specs.declared.changes.Change.{Change}
-
--- one of these changes is of the table that begins at a page
-abbrev pub has_table : ℕ → List Change → Bool
-has_table number [] = false
-has_table number (c ∷ cs) = c.table == number || has_table number cs
-
--- whether one of all those that are given from a list on is
-abbrev pub TellsTable : ℕ → Undo → Bool → Type 0
-TellsTable number undo some = (given : List Change) (end : Undo) → TakesBack undo given end
-    → some ≡ has_table number given
+use Rattle.mg_undo.specs.Undo.{State as Undo, TellsTable}
 
 -- whether one of those that a transaction takes back to a point is of the catalog
 abbrev pub TellsTables : {D : Type 0} → Core D → ℕ → Point → Bool → Type 0

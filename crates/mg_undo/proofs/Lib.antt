@@ -1,5 +1,7 @@
 mod Steps
+mod TouchLemmas
 mod Given
+mod WayLemmas
 mod MachineLemmas
 mod PlacesLemmas
 mod PlacingLemmas

@@ -1,7 +1,7 @@
 //! The changes of a transaction, each with what was before.
 
-ghost use Rattle.std.specs.Prelude.{◌≡◌, ◌<◌, [], ◌∷◌, length, drop, IfOk, OnOk, OnErr};
-ghost use Rattle.mg_undo.specs.Undo.{repeats as repeats_of, settled, without_newest, given_as, newest};
+ghost use Rattle.std.specs.Prelude.{◌≡◌, ◌-◌, ◌<◌, ◌≤◌, [], ◌∷◌, Some, length, take, drop, IfOk, OnOk, OnErr};
+ghost use Rattle.mg_undo.specs.Undo.{repeats as repeats_of, settled, since, without_newest, given_as, has_table, newest};
 
 use crate::places::{Places, place_of};
 use mg_base::Memory;
@@ -45,6 +45,19 @@ pub struct Change {
     pub table: u32,
     pub key: Key,
     pub was: Was,
+}
+
+/// Tells whether one of the newest so many changes is of the table that begins at a page.
+fn has_among(list: &VecDeque<Change>, count: usize, table: u32) -> bool
+    requires { count ≤ length list.now.items }
+    ensures { result ≡ has_table table (take count list.now.items) }
+{
+    for i in 0..count {
+        if list[i].table == table {
+            return true;
+        }
+    }
+    false
 }
 
 /// The changes that were kept, with the places of their keys, so that a repeated change is found
@@ -133,6 +146,39 @@ impl Changes {
         self.places.repeats(floor)
     }
 
+    /// Tells whether a change is of a key that was changed before it, after the first `floor` changes. `at`
+    /// is how many changes are newer.
+    fn repeats_at(&self, at: usize, floor: usize) -> bool
+        ensures { result ≡ repeats_of floor (drop at self.now) }
+    {
+        self.places.repeats_at(at, floor)
+    }
+
+    /// The newest change behind so many that is of no key that was changed before it, after the first
+    /// `floor` changes: how many are newer.
+    pub(crate) fn settled_from(&self, from: usize, floor: usize) -> usize
+        ensures { drop result self.now ≡ settled floor (drop from self.now) }
+    {
+        let mut at = from;
+        while self.len().saturating_sub(at) > floor && self.repeats_at(at, floor) {
+            at += 1;
+        }
+        at
+    }
+
+    /// A copy of a change. `at` is how many changes are newer.
+    ///
+    /// # Errors
+    ///
+    /// `Memory` only.
+    pub(crate) fn copy_at(&self, at: usize, alloc: Global) -> Result<(u32, Key, Was), Memory>
+        requires { at < length self.now }
+        ensures { IfOk result (λ given. Some given ≡ given_as (newest (drop at self.now))) }
+    {
+        let Change { table, key, was } = &self.list[at];
+        Ok((*table, key.copy(alloc)?, was.copy(alloc)?))
+    }
+
     /// Takes the newest change out.
     fn take_newest(&mut self) -> Option<Change>
         ensures newest { result ≡ newest self.old }
@@ -142,12 +188,29 @@ impl Changes {
         self.list.pop_front()
     }
 
+    /// Tells whether one of the changes but the first `floor` is of the table that begins at a page.
+    pub(crate) fn touch(&self, table: u32, floor: usize) -> bool
+        ensures { result ≡ has_table table (since floor self.now) }
+    {
+        let count = self.list.len().saturating_sub(floor);
+        has_among(&self.list, count, table)
+    }
+
     /// Drops the newest changes of keys that were changed before, after the first `floor` changes:
     /// what they were is not what is given back.
     pub(crate) fn drop_repeated(&mut self, floor: usize)
         ensures { self.new ≡ settled floor self.old }
     {
         while self.len() > floor && self.repeats(floor) {
+            self.take_newest();
+        }
+    }
+
+    /// Drops all changes but the first `floor`.
+    pub(crate) fn drop_to(&mut self, floor: usize)
+        ensures { self.new ≡ drop (length self.old - floor) self.old }
+    {
+        while self.len() > floor {
             self.take_newest();
         }
     }

@@ -1,9 +1,9 @@
 //! What is known of an active transaction.
 
-ghost use Rattle.std.specs.Prelude.{◌≡◌, ◌==◌, ◌∷◌, None, Some, IfOk, OnOk, OnErr};
+ghost use Rattle.std.specs.Prelude.{◌≡◌, ◌==◌, ◌∷◌, None, Some, true, IfOk, OnOk, OnErr};
 ghost use Rattle.std.specs.Option.{option_copied};
 ghost use Rattle.mg_model.specs.Changes.{same_name};
-ghost use Rattle.mg_undo.specs.Undo.{given_as, has_point, take_back as taken_back};
+ghost use Rattle.mg_undo.specs.Undo.{TellsTable, after_back_to, given_as, has_point, take_back as taken_back};
 ghost use Rattle.mg_works.specs.Works.{begun, given_in, going_back_to, has_asked as asked_for, tables_left, with_change, with_point, with_step_back, with_table, with_undo, with_written, unasked, without_change, without_tables, without_written, written_in};
 
 use mg_base::{Memory, TxNo};
@@ -151,6 +151,22 @@ impl Work {
         ensures after { self.new ≡ with_step_back self.old }
     {
         self.undo.take_back()
+    }
+
+    /// Tells whether one of the changes that are taken back from here on is of the table that begins at a
+    /// page.
+    pub fn touches(&self, table: u32) -> bool
+        ensures { TellsTable table self.now.undo result }
+    {
+        self.undo.touches(table)
+    }
+
+    /// The same of those that are taken back once it goes back to its last savepoint of a name.
+    pub fn touches_since(&self, name: &Name, table: u32) -> bool
+        ensures { has_point self.now.undo (Some name.now) ≡ true
+            → TellsTable table (after_back_to self.now.undo name.now) result }
+    {
+        self.undo.touches_since(name, table)
     }
 
     /// An equal one of what it has to take back.

@@ -18,7 +18,6 @@ use Rattle.mg_records.specs.TakingBack.{GivesUp, GoesBack, Undoes}
 use Rattle.mg_works.specs.Works.{AreApart}
 use Rattle.mg_core.specs.declared.parts.Core.{Core}
 use Rattle.mg_core.specs.Cores.{IsCore}
-use Rattle.mg_core.specs.Events.{IsRefused, RollsBack}
 use Rattle.mg_taking_back.specs.Tables.{TellsTables}
 use Rattle.mg_taking_back.specs.Taking.{FailsBackTo, GoesBackTo, TakesBackTo}
 use Rattle.mg_engine_meaning.specs.Meaning.{Places, means}
@@ -85,17 +84,3 @@ abbrev pub SavepointsGive : (D P : Type 0) → Meaning D → Type 0
 SavepointsGive D P m = (places : Places P) (old new : Core D) (t : TxNo) (name : List ℕ) (result : Result Bool Refusal)
     → IsCore m old → AreCounts old → AreApart old.works → TellsTables old t.0 (SavepointNamed name) false
     → GoesBackTo m old new t.0 name result → IsBack m places old new t name result
-
--- the transaction is rolled back, since memory is wanting; or the call is refused
-abbrev pub IsRolledShort : {D : Type 0} → Core D → Core D → ℕ → Refusal → Type 0
-IsRolledShort old new t refusal = (RollsBack old new t × (refusal ≡ Memory)) ⊎ IsRefused old new t refusal
-
--- so a call is given up without a change taken back
-abbrev pub ShortMarksGive : (D P : Type 0) → Meaning D → Type 0
-ShortMarksGive D P m = (places : Places P) (old new : Core D) (t : TxNo) (refusal : Refusal) → IsCore m old
-    → AreApart old.works → IsRolledShort old new t.0 refusal → IsUndone m places old new t (Err refusal)
-
-abbrev pub ShortSavepointsGive : (D P : Type 0) → Meaning D → Type 0
-ShortSavepointsGive D P m = (places : Places P) (old new : Core D) (t : TxNo) (name : List ℕ) (refusal : Refusal)
-    → IsCore m old → AreApart old.works → IsRolledShort old new t.0 refusal
-    → IsBack m places old new t name (Err refusal)

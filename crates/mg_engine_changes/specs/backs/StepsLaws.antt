@@ -16,7 +16,7 @@ use Rattle.mg_engine_changes.specs.given_up.FailedLaws.{failed_gives}
 use Rattle.mg_engine_changes.specs.given_up.StoppedLaws.{given_up_gives}
 use Rattle.mg_engine_changes.specs.backs.Known.{KnownOfBacks}
 use Rattle.mg_engine_changes.specs.given_up.ShortLaws.{refused_given, rolled_short, short_given}
-use Rattle.mg_engine_changes.specs.backs.Outcomes.{GivenUpApart, IsBack, IsRolledShort, IsUndone, MarksGive, SavepointsGive, ShortMarksGive, ShortSavepointsGive, back_event}
+use Rattle.mg_engine_changes.specs.backs.Outcomes.{GivenUpApart, IsBack, IsUndone, MarksGive, SavepointsGive, back_event}
 use Rattle.mg_engine_changes.specs.given_up.Stopped.{stops_after}
 use Rattle.mg_engine_changes.specs.given_up.StopsAfter.{StopsAfter}
 use Rattle.mg_engine_changes.specs.given_up.StopsAfterLaws.{stopped_is}
@@ -104,12 +104,6 @@ module _ {D P : Type 0} (m : Meaning D) (places : Places P) (known : KnownOfBack
     gives = short_given m places known old new t point core apart rolls;
     apart = subst AreApart (sym (ap (λ (c : Core D). c.works) rolls.same)) (without_apart old.works t.0 apart);
   }
-
-  pub rolled_given : (point : Point) (refusal : Refusal) → IsRolledShort old new t.0 refusal
-      → GivenUpApart m places old new t point refusal
-  rolled_given point refusal (inl (rolls, is)) =
-      subst (λ (r : Refusal). GivenUpApart m places old new t point r) (sym is) (short point rolls)
-  rolled_given point refusal (inr refused) = not_begun point refusal refused
 
   -- memory is wanting once the event has begun
   pub short_begun : (point : Point) (refusal : Refusal) (begun : Core D) → Continues old t.0 → EndsWait old begun t.0
@@ -314,10 +308,6 @@ marks_give m known places old new t (Ok x) core counted apart none takes = undon
 marks_give m known places old new t (Err refusal) core counted apart none fails = not_undone m places old new t refusal
     (not_taken m places known old new t core apart counted LastMark refusal none fails)
 
-pub short_marks_give : {D P : Type 0} (m : Meaning D) → KnownOfBacks D P m → ShortMarksGive D P m
-short_marks_give m known places old new t refusal core apart rolled = not_undone m places old new t refusal
-    (rolled_given m places known old new t core apart LastMark refusal rolled)
-
 pub savepoints_give : {D P : Type 0} (m : Meaning D) → KnownOfBacks D P m → SavepointsGive D P m
 savepoints_give m known places old new t name (Ok true) core counted apart none (there, takes) =
     back_by m places known old new t name core takes.has_begun.continues there
@@ -328,8 +318,3 @@ savepoints_give m known places old new t name (Ok false) core counted apart none
 savepoints_give m known places old new t name (Err refusal) core counted apart none fails =
     not_back m places old new t name refusal
     (not_taken m places known old new t core apart counted (SavepointNamed name) refusal none fails)
-
-pub short_savepoints_give : {D P : Type 0} (m : Meaning D) → KnownOfBacks D P m → ShortSavepointsGive D P m
-short_savepoints_give m known places old new t name refusal core apart rolled =
-    not_back m places old new t name refusal
-    (rolled_given m places known old new t core apart (SavepointNamed name) refusal rolled)

@@ -31,10 +31,10 @@ use Rattle.mg_model.specs.declared.table.Table.{Table}
 use Rattle.mg_overlays.specs.Overlays.{left_state}
 use Rattle.mg_pool.specs.Pool.{shown}
 use Rattle.mg_image_overlays.specs.tables.OneTable.{one_table, stands_in}
-use Rattle.mg_taking_back.specs.Tables.{TellsTables, has_table}
+use Rattle.mg_taking_back.specs.Tables.{TellsTables}
 use Rattle.mg_taking_back.specs.Taking.{HasBegun, MayReach}
 use Rattle.mg_undo.specs.Machine.{first_of, given_from, going_to}
-use Rattle.mg_undo.specs.Undo.{TakesBack as GivesAll, State as Undo}
+use Rattle.mg_undo.specs.Undo.{TakesBack as GivesAll, State as Undo, has_table}
 use Rattle.mg_undo.specs.declared.changes.Change.{Change as Kept}
 use Rattle.mg_value.specs.declared.value.Value.{Value}
 

@@ -1,7 +1,7 @@
 //! A transaction is taken back to a point. Each function does nothing: its contract is the laws.
 
 ghost use Rattle.mg_engine_changes.specs.backs.Known.{KnownOfBacks};
-ghost use Rattle.mg_engine_changes.specs.backs.Outcomes.{MarksGive, SavepointsGive, ShortMarksGive, ShortSavepointsGive};
+ghost use Rattle.mg_engine_changes.specs.backs.Outcomes.{MarksGive, SavepointsGive};
 
 use crate::{
     cores_enter_some, cores_take_all, engines_go_back_to, keys_are_taken, keys_keep_lists,
@@ -55,8 +55,6 @@ pub fn backs_are_known<D: Disk, P>()
 pub fn backs_give<D: Disk, P>()
     ensures marks { MarksGive D P D.meaning }
     ensures savepoints { SavepointsGive D P D.meaning }
-    ensures short_marks { ShortMarksGive D P D.meaning }
-    ensures short_savepoints { ShortSavepointsGive D P D.meaning }
 {
     backs_are_known::<D, P>();
 }

@@ -1,4 +1,4 @@
-use Rattle.mg_no_damage.specs.EventRoom.{founds, looks, points, rollbacks, rolled}
+use Rattle.mg_no_damage.specs.EventRoom.{founds, looks, points, rollbacks}
 use Rattle.mg_no_damage.proofs.room.events_take_none.Goals as goal
 
 pub returns-clause-looks : goal.returns-clause-looks
@@ -12,6 +12,3 @@ returns-clause-points g c = points g.D.Disk.meaning
 
 pub returns-clause-rollbacks : goal.returns-clause-rollbacks
 returns-clause-rollbacks g c = rollbacks g.D.Disk.meaning
-
-pub returns-clause-rolled : goal.returns-clause-rolled
-returns-clause-rolled g c = rolled g.D.Disk.meaning

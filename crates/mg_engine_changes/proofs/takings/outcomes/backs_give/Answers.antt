@@ -6,9 +6,3 @@ returns-clause-marks g c = laws.marks_give g.D.Disk.meaning c.backs_are_known.en
 
 pub returns-clause-savepoints : goal.returns-clause-savepoints
 returns-clause-savepoints g c = laws.savepoints_give g.D.Disk.meaning c.backs_are_known.ensures
-
-pub returns-clause-short_marks : goal.returns-clause-short_marks
-returns-clause-short_marks g c = laws.short_marks_give g.D.Disk.meaning c.backs_are_known.ensures
-
-pub returns-clause-short_savepoints : goal.returns-clause-short_savepoints
-returns-clause-short_savepoints g c = laws.short_savepoints_give g.D.Disk.meaning c.backs_are_known.ensures
