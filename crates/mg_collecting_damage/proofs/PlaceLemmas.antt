@@ -1,12 +1,10 @@
 -- A record is collected at a place without damage, by an engine that stands for a history.
-use Rattle.std.proofs.Common.{◌≡◌, ◌≢◌, ◌∙◌, inl, inr, refl, sym, ap, subst, ℕ, Bool, true, List, [], ◌∷◌, Option, None, Some, Result, Ok, Err}
-use Rattle.std.specs.Prelude.{map}
+use Rattle.std.proofs.Common.{◌≡◌, ◌≢◌, ◌∙◌, inl, inr, refl, sym, ap, subst, ℕ, Bool, true, List, [], ◌∷◌, Option, None, Some, Ok, Err}
 use Rattle.mg_base.specs.Disk.{Meaning}
 use Rattle.mg_base.specs.Image.{Image}
 use Rattle.mg_base.specs.declared.damage.Damaged.{Damaged}
 use Rattle.mg_base.specs.declared.geometry.Geometry.{Geometry}
 use Rattle.mg_base.specs.declared.numbers.RecId.{RecId}
-use Rattle.mg_base.specs.declared.numbers.TxNo.{TxNo}
 use Rattle.mg_base.specs.declared.transaction.TxState.{TxState}
 use Rattle.mg_base.specs.declared.transaction.TxState.TheVariants.{Active}
 use Rattle.mg_chain.specs.Chains.{newest_link, starts}
@@ -17,12 +15,12 @@ use Rattle.mg_collecting.specs.Steps.{FailsStep, Steps, not_dropped, not_read, n
 use Rattle.mg_core.specs.Cores.{IsCore}
 use Rattle.mg_core.specs.Refusing.{CountsFault}
 use Rattle.mg_core.specs.declared.parts.Core.{Core}
-use Rattle.mg_core_collecting.specs.Places.{CollectsPlace, FailsSettled, IsSettled, RefusesLook, not_collected, not_looked, not_told}
+use Rattle.mg_core_collecting.specs.Places.{FailsSettled, IsSettled, RefusesLook, not_collected, not_looked, not_told}
 use Rattle.mg_engine_changes.specs.rows.Plain.{WritesKeepPlain}
 use Rattle.mg_engine_collecting.specs.CoreStays.{HasInNamed, shows_then}
 use Rattle.mg_engine_collecting.specs.PlaceNamed.{core_behind, named_behind, record_there}
 use Rattle.mg_engine_collecting.specs.RunStays.{steps_on}
-use Rattle.mg_engine_collecting.specs.StepStays.{ShowsRecord, StepStays}
+use Rattle.mg_engine_collecting.specs.StepStays.{StepStays}
 use Rattle.mg_engine_meaning.specs.Meaning.{Places}
 use Rattle.mg_engine_meaning.specs.ReadLaws.{reads_stand}
 use Rattle.mg_engine_meaning.specs.Standings.{ShowsIt, StandsFor, asked_in, sessions_in, standing_of}
@@ -38,18 +36,16 @@ use Rattle.mg_image.specs.Form.{Pages, packed_coding, packed_form}
 use Rattle.mg_image.specs.ReadingLaws.{Opens, RowsAreOne, chain_opens}
 use Rattle.mg_image.specs.Records.{Chain, Reading, cells_of}
 use Rattle.mg_image.specs.Sound.{IsSoundBy, facts_by}
-use Rattle.mg_image.specs.Tables.{Layout, Stand, stands_of, table_at}
+use Rattle.mg_image.specs.Tables.{Layout, stands_of, table_at}
 use Rattle.mg_image.specs.declared.entry.Entry.{Entry}
 use Rattle.mg_image_overlays.specs.tables.Growing.{IsTableOf}
 use Rattle.mg_image_overlays.specs.tables.OneLayout.{StandsOneWay}
 use Rattle.mg_image_overlays.specs.tables.OneTable.{stands_in}
-use Rattle.mg_image_overlays.specs.tables.TableOwners.{IsOneOf}
 use Rattle.mg_lasting.specs.PoolLaws.{HoldsOne}
 use Rattle.mg_model.specs.History.{Entries}
 use Rattle.mg_model.specs.Laws.{OpeningsBegin}
 use Rattle.mg_model.specs.Openings.{everyone}
 use Rattle.mg_model.specs.declared.opening.Opening.{Opening}
-use Rattle.mg_model.specs.declared.refusal.Refusal.{Refusal}
 use Rattle.mg_model.specs.declared.refusal.Refusal.TheVariants.{DatabaseFull}
 use Rattle.mg_model.specs.declared.table.Table.{Table}
 use Rattle.mg_no_damage.specs.Batches.{VersionsAreTakenOut}
@@ -81,7 +77,7 @@ use Rattle.mg_collecting_damage.specs.Undamaged.{CollectionsMeetNone, Collection
 use Rattle.mg_collecting_damage.proofs.DropLemmas.{drop_filled, drop_lawful, lawful_now, shown_now}
 
 -- what is counted of a fault that tells no damage
-not_counted : (fault : SpaceFault) (damage now shortages later : ℕ) → ((it : Damaged) → fault ≢ faults.Damaged it)
+pub not_counted : (fault : SpaceFault) (damage now shortages later : ℕ) → ((it : Damaged) → fault ≢ faults.Damaged it)
     → ((n : ℕ) → fault ≢ faults.Pool (pool_faults.Absent n)) → CountsFault fault damage now shortages later
     → now ≡ damage
 not_counted (faults.Full limit) damage now shortages later none there counts = counts.0
@@ -186,7 +182,7 @@ module _ {D : Type 0} (m : Meaning D) (laws : PlaceParts m) (image : Image) (sta
         fails
 
 -- a page that was to be read is not one that is absent
-step_there : {D : Type 0} (m : Meaning D) (rec : RecId) (a n : Pool D FireLinks) (k : ℕ)
+pub step_there : {D : Type 0} (m : Meaning D) (rec : RecId) (a n : Pool D FireLinks) (k : ℕ)
     → FailsStep m rec a n (faults.Pool (pool_faults.Absent k)) → ⊥
 step_there m rec a n k (not_read fails) = absurd fails.own
 step_there m rec a n k (not_dropped holder newer followed fails) = own_there m a n _ _ k fails
@@ -224,7 +220,7 @@ own_full : {D : Type 0} (m : Meaning D) (a n : Pool D FireLinks) (fills : Image 
 own_full m a n fills refuses image limit tells none (not_filled keeps alone told why) = none (why image tells)
 own_full m a n fills refuses image limit tells none (not_changed batch ready keeps online filled fails) = absurd fails
 
-step_full : {D : Type 0} (m : Meaning D) (rec : RecId) (a n : Pool D FireLinks) (image : Image) (limit : ℕ)
+pub step_full : {D : Type 0} (m : Meaning D) (rec : RecId) (a n : Pool D FireLinks) (image : Image) (limit : ℕ)
     → Tells m a.disk image → FailsStep m rec a n (faults.Full limit) → ⊥
 step_full m rec a n image limit tells (not_read fails) = absurd fails.own
 step_full m rec a n image limit tells (not_dropped holder newer followed fails) = own_full m a n _ _ image limit tells

@@ -5,6 +5,7 @@ use Rattle.mg_base.specs.declared.numbers.RecId.{RecId}
 use Rattle.mg_base.specs.declared.numbers.TxNo.{TxNo}
 use Rattle.mg_core.specs.Cores.{IsCore}
 use Rattle.mg_core.specs.declared.parts.Core.{Core}
+use Rattle.mg_core_collecting.specs.Every.{CollectsEvery}
 use Rattle.mg_core_collecting.specs.Places.{CollectsPlace}
 use Rattle.mg_model.specs.declared.refusal.Refusal.{Refusal}
 use Rattle.mg_model.specs.declared.table.Table.{Table}
@@ -28,3 +29,14 @@ abbrev pub CollectionsMissNone : (D : Type 0) → Meaning D → Type 0
 CollectionsMissNone D m = (old new : Core D) (t : TxNo) (table : Table) (rec : RecId) (result : Result Bool Refusal)
     → IsCore m old → given_to old.works t.0 table.name ≡ Some table → CollectsPlace m old new t table rec result
     → (o : Opening) (h : Entries) → StandsFor m old o h → TakesNoPage (refusal_in result)
+
+-- every record of the committed tables is collected, or not all are: no page was found damaged either
+abbrev pub EveryMeetsNone : (D : Type 0) → Meaning D → Type 0
+EveryMeetsNone D m = (old new : Core D) (result : Result (Unit {0}) Refusal) → IsCore m old
+    → CollectsEvery m old new result → DamageStands m old new
+
+-- and it is not refused for want of pages
+abbrev pub EveryMissesNone : (D : Type 0) → Meaning D → Type 0
+EveryMissesNone D m = (old new : Core D) (result : Result (Unit {0}) Refusal) → IsCore m old
+    → CollectsEvery m old new result → (o : Opening) (h : Entries) → StandsFor m old o h
+    → TakesNoPage (refusal_in result)

@@ -1,6 +1,6 @@
 //! A collection meets no damage, and wants no page. The function does nothing: its contract is the laws.
 
-ghost use Rattle.mg_collecting_damage.specs.Undamaged.{CollectionsMeetNone, CollectionsMissNone};
+ghost use Rattle.mg_collecting_damage.specs.Undamaged.{CollectionsMeetNone, CollectionsMissNone, EveryMeetsNone, EveryMissesNone};
 
 use mg_base::Disk;
 use mg_engine_changes::writes_keep_plain;
@@ -14,6 +14,7 @@ use mg_no_damage::{
     lawful_records_are_read, lawful_tables_are_read, pages_are_taken, records_change,
     sound_images_are_lawful, stands_are_read,
 };
+use mg_seek::records_are_those_of_every_reading;
 use mg_space::FireLinks;
 
 /// A record that is collected at a place meets no damage, made or refused, and is refused for want of pages nowhere.
@@ -29,6 +30,30 @@ pub fn collections_meet_no_damage<D: Disk>()
     garbage_may_go();
     histories_go_on();
     tables_of_layouts_are_walked();
+    batches_last::<D, FireLinks>();
+    sound_images_are_lawful();
+    stands_are_read::<D>();
+    pages_are_taken();
+    lawful_records_are_read::<D>();
+    lawful_tables_are_read::<D>();
+    records_change::<D>();
+}
+
+/// The collection of every record of the committed tables meets no damage, made or refused, and is refused for want of pages
+/// nowhere.
+pub fn every_meets_no_damage<D: Disk>()
+    ensures damage { EveryMeetsNone D D.meaning }
+    ensures pages { EveryMissesNone D D.meaning }
+{
+    one_reading();
+    sound_images_stand_one_way();
+    tips_stay();
+    lists_go_on::<D, FireLinks>();
+    writes_keep_plain();
+    garbage_may_go();
+    histories_go_on();
+    tables_of_layouts_are_walked();
+    records_are_those_of_every_reading();
     batches_last::<D, FireLinks>();
     sound_images_are_lawful();
     stands_are_read::<D>();

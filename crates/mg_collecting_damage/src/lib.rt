@@ -16,4 +16,4 @@
 
 mod laws;
 
-pub use laws::collections_meet_no_damage;
+pub use laws::{collections_meet_no_damage, every_meets_no_damage};

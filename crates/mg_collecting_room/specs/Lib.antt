@@ -1,1 +1,2 @@
+pub mod EveryRoom
 pub mod Room

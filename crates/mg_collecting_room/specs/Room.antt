@@ -103,7 +103,7 @@ module _ {D : Type 0} (m : Meaning D) where
   over_other store pages view at v back (faults.Damaged it) refused limit is = absurd cc
   over_other store pages view at v back (faults.Pool fault) refused limit is = absurd cc
 
-  read_other : (fault : SpaceFault) → ReadsData {T = Unit {0}} (Err fault) → IsOther fault
+  pub read_other : (fault : SpaceFault) → ReadsData {T = Unit {0}} (Err fault) → IsOther fault
   read_other (faults.Full most) never limit is = absurd never
   read_other (faults.Damaged it) reads limit is = absurd cc
   read_other (faults.Pool fault) reads limit is = absurd cc
@@ -136,7 +136,7 @@ module _ {D : Type 0} (m : Meaning D) (holds : ToldAreHeld m) (laws : BatchLaws 
   step_spends before after (takes_erased own) = own_spends m before after _ 0
       (λ image batch it. laws.out_takes before image nothing_yet batch rec it.takes) own
 
-  steps_spend : (start : Pool D FireLinks) (some : Bool) (now : Pool D FireLinks)
+  pub steps_spend : (start : Pool D FireLinks) (some : Bool) (now : Pool D FireLinks)
       → Steps m state live rec start some now → SpendsAtMost m start now 0
   steps_spend start b p starts = nothing_spent m start start refl
   steps_spend start b p (reads_on some now after steps keeps online) =
@@ -144,14 +144,14 @@ module _ {D : Type 0} (m : Meaning D) (holds : ToldAreHeld m) (laws : BatchLaws 
   steps_spend start b p (one_more some now after steps step) =
       both_spend m holds start now after 0 0 (steps_spend start some now steps) (step_spends now after step)
 
-  stop_spends : (before after : Pool D FireLinks) (fault : SpaceFault) → FailsStep m rec before after fault
+  pub stop_spends : (before after : Pool D FireLinks) (fault : SpaceFault) → FailsStep m rec before after fault
       → SpendsAtMost m before after 0
   stop_spends before after fault (not_read fails) = read_spends m before after fails.keeps
   stop_spends before after fault (not_dropped holder newer follows own) =
       failing_spends m holds before after _ _ fault own
   stop_spends before after fault (not_taken_out link leads own) = failing_spends m holds before after _ _ fault own
 
-  stop_short : (before after : Pool D FireLinks) (fault : SpaceFault) → FailsStep m rec before after fault
+  pub stop_short : (before after : Pool D FireLinks) (fault : SpaceFault) → FailsStep m rec before after fault
       → IsNotShort m before 0 fault
   stop_short before after fault (not_read fails) = λ lawful i tells.
       other_there before.geometry (shown before.dirty i) 0 fault (read_other m fault fails.own)

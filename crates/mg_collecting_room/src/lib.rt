@@ -13,4 +13,4 @@
 
 mod laws;
 
-pub use laws::collections_take_none;
+pub use laws::{collections_take_none, every_takes_none};

@@ -1,2 +1,3 @@
+mod EveryLemmas
 mod LookLemmas
 mod PlaceLemmas

@@ -75,7 +75,7 @@ fn has_settled<S: States>(states: &S, link: Link, version: &Version) -> bool
 /// # Errors
 ///
 /// As `newest_link` and `version_at` of mg_chain.
-fn is_settled<D: Disk, S: States>(
+pub(crate) fn is_settled<D: Disk, S: States>(
     store: &mut Store<D>,
     rec: RecId,
     states: &S,

@@ -1,5 +1,5 @@
 -- The record that a reading visited last is collected, which is nobody's event.
-use Rattle.std.proofs.Common.{◌≡◌, ◌⊎◌, ◌∙◌, ◌+◌, ◌*◌, inl, inr, ℕ, Bool, true, Option, Some, None, Err, ap, arith, refl, sym, subst, length}
+use Rattle.std.proofs.Common.{◌≡◌, ◌⊎◌, ◌∙◌, ◌+◌, ◌*◌, inl, inr, ℕ, Bool, true, Some, None, Result, Ok, Err, ap, refl, sym, subst, length}
 use Rattle.mg_base.specs.declared.numbers.TxNo.{TxNo}
 use Rattle.mg_statements.specs.Plain.{Plain}
 use Rattle.mg_model.specs.declared.answer.Answer.TheVariants.{No}
@@ -9,14 +9,8 @@ use Rattle.mg_model.specs.declared.table.Table.{Table}
 use Rattle.mg_model.specs.History.{Entries}
 use Rattle.mg_model.specs.Legal.{is_outer}
 use Rattle.mg_records.specs.Asking.{TakesNoPage}
-use Rattle.mg_records.specs.Crashing.{CrashesHold, LeavesQuietly}
-use Rattle.mg_records.specs.Keeping.{FaultsAreTold, MeetsNoDamage, Reads}
 use Rattle.mg_records.specs.Meaning.{Means}
-use Rattle.mg_records.specs.Sessions.{SessionsStay}
 use Rattle.mg_tending.specs.Collecting.{AreAsFar, Collecting, Collects}
-use Rattle.mg_calls.specs.FrameLaws.{frames_reads_nothing}
-use Rattle.mg_calls.specs.Frames.{Frames}
-use Rattle.mg_calls.specs.QuietLaws.{quiet_nothing, quiet_reading}
 use Rattle.mg_exec.specs.declared.phase.Phase.{Phase}
 use Rattle.mg_exec.specs.declared.phase.Phase.TheVariants as phases
 use Rattle.mg_exec.specs.declared.run.Run.{Run as RunOf}
@@ -26,7 +20,7 @@ use Rattle.mg_exec.specs.Running.{place_at, table_at}
 use Rattle.mg_exec_courses.specs.Courses.{IsCourse}
 use Rattle.mg_transcript.specs.Courses.{Course}
 use Rattle.mg_courses.specs.AnyRuns.{any_runs}
-use Rattle.mg_courses.specs.Aside.{IsAside, IsBegun, StopsSo, VisitedIsCollected}
+use Rattle.mg_courses.specs.Aside.{IsBegun, StopsSo, VisitedIsCollected}
 use Rattle.mg_courses.specs.OutsideLaws.{outer_unpaged}
 
 -- ---- what a reading has visited
@@ -85,45 +79,6 @@ still_there m old new t (phases.Creating making) far = refl
 still_there m old new t (phases.Retrying making) far = refl
 still_there m old new t phases.Ended far = refl
 still_there m old new t phases.RolledBack far = refl
-
--- what is collected beside it is nobody's event
-pub aside_collected : {R P : Type 0} (m : Means R P) (old new : R) (refusal : Option Refusal)
-    → Reads m old new refusal None → FaultsAreTold m old new refusal → MeetsNoDamage m old new
-    → LeavesQuietly m old new → SessionsStay m old new None None → IsAside m old new refusal
-aside_collected m old new refusal reads told undamaged crash sessions = record {
-  frames = λ n. frames_reads_nothing m old new n refusal reads told;
-  stays = reads.stays;
-  quiet = quiet_reading m old new refusal None reads undamaged crash sessions;
-}
-
--- nothing is called
-no_frames : {R P : Type 0} (m : Means R P) (r : R) (n : ℕ) → Frames m r r n None
-no_frames m r n = record {
-  faults = (omega arith, omega arith);
-  steady = λ k quiet. refl;
-  damage = omega arith;
-  shortages = omega arith;
-  cause = tt;
-  down = inl refl;
-  tells = refl;
-  most_writes = refl;
-  page_limit = refl;
-  time = λ told. record { later = omega arith; keeps = λ t c within was. was };
-  sizes = λ size. refl;
-  given = λ table was. was;
-  places = λ table place was. was;
-  tables = λ u name table apart was. was;
-  walks = λ u table after rows apart come. come;
-  commits = record { asked = λ u apart was. was; written = λ u apart was. was };
-}
-
--- and so is nothing
-pub aside_nothing : {R P : Type 0} (m : Means R P) → CrashesHold m → (r : R) → IsAside m r r None
-aside_nothing m crashes r = record {
-  frames = λ n. no_frames m r n;
-  stays = λ o h stands. stands;
-  quiet = quiet_nothing m crashes r;
-}
 
 -- where no place was visited nothing is to be collected
 pub none_visited : {R P : Type 0} (m : Means R P) (c : Collecting R P) (old new : R) (run : RunOf R P)

@@ -52,6 +52,13 @@ abbrev pub StopsSo : {R P Run : Type 0} → Means R P → RunMeans R Run → R �
 StopsSo m runs r t run (Ok done) = Unit {0}
 StopsSo m runs r t run (Err refusal) = (o : Opening) (h : Entries) → m.stands r o h → MayStop runs r o h t run refusal
 
+-- ---- calls that tend pages
+
+-- what is refused comes from outside, and is no want of pages
+abbrev pub IsOutsideFor : {R P T : Type 0} → Means R P → R → Result T Refusal → Type 0
+IsOutsideFor m old (Ok x) = Unit {0}
+IsOutsideFor m old (Err refusal) = (o : Opening) (h : Entries) → m.stands old o h → is_outside refusal ≡ true
+
 -- ---- what a statement of mg_exec has visited
 
 -- The record that a statement visited last is collected, as long as it reads: what remains of it is left.

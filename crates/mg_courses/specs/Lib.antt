@@ -9,3 +9,4 @@ pub mod BesideLaws
 pub mod AnyRuns
 pub mod AnyLaws
 pub mod OutsideLaws
+pub mod AsideLaws

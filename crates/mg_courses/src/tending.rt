@@ -4,12 +4,13 @@ ghost use Rattle.std.specs.Prelude.{◌≡◌, true, None, Some, IfErr, OnOk};
 ghost use Rattle.mg_records.specs.Crashing.{LeavesQuietly};
 ghost use Rattle.mg_records.specs.Keeping.{FaultsAreTold, MeetsNoDamage, Reads, refusal_in};
 ghost use Rattle.mg_records.specs.Sessions.{SessionsStay};
+ghost use Rattle.mg_tending.specs.Collecting.{CollectsEach};
 ghost use Rattle.mg_tending.specs.Tending.{WritesAPage};
 ghost use Rattle.mg_exec.specs.Progress.{still_at};
 ghost use Rattle.mg_exec.specs.Running.{place_at, table_at};
 ghost use Rattle.mg_transcript.specs.Steps.{is_outside};
 ghost use Rattle.mg_courses.specs.AnyRuns.{IsGoing, any_runs};
-ghost use Rattle.mg_courses.specs.Aside.{IsAside, StopsSo, VisitedIsCollected};
+ghost use Rattle.mg_courses.specs.Aside.{IsAside, IsOutsideFor, StopsSo, VisitedIsCollected};
 
 use crate::statements::Statements;
 use mg_base::TxNo;
@@ -45,6 +46,19 @@ pub trait Tends: Statements {
         ensures aside { IsAside Self.meaning self.old self.new (refusal_in result) }
         ensures far { Self.runs.still self.new t run.now ≡ Self.runs.still self.old t run.now }
         ensures stops { StopsSo Self.meaning Self.runs self.old t run.now result };
+
+    /// Each record of each committed table is collected.
+    ghost each_collected: { Self → Self → Type 0 };
+
+    /// Collects each record of each committed table. It is nobody's event.
+    ///
+    /// # Errors
+    ///
+    /// From outside, at the first record that is not collected.
+    fn collect_all(&mut self) -> Result<(), Refusal>
+        ensures collects { OnOk result (each_collected self.old self.new) }
+        ensures aside { IsAside Self.meaning self.old self.new (refusal_in result) }
+        ensures outside { IsOutsideFor Self.meaning self.old result };
 }
 
 // Collects the record that a statement visited last, if it has visited one.
@@ -117,5 +131,11 @@ where
 
     fn collect_visited(&mut self, t: TxNo, run: &Run<R>) -> Result<(), Refusal> {
         collect_last(self, t, run)
+    }
+
+    ghost each_collected = { CollectsEach R.meaning R.collecting };
+
+    fn collect_all(&mut self) -> Result<(), Refusal> {
+        Collects::collect_all(self)
     }
 }

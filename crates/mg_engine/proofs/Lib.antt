@@ -6,6 +6,7 @@ mod BehindLemmas
 mod ChangingLemmas
 mod CollectLemmas
 mod KeyCollectLemmas
+mod EveryLemmas
 mod GivenLemmas
 mod MakingLemmas
 mod NotingLemmas

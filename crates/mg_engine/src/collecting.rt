@@ -11,11 +11,14 @@ use crate::engine::Engine;
 use crate::keyed::keys_go_on;
 use crate::sizes::counts_fit;
 use mg_base::{Disk, RecId, TxNo};
-use mg_collecting_damage::collections_meet_no_damage;
-use mg_collecting_room::collections_take_none;
+use mg_collecting_damage::{collections_meet_no_damage, every_meets_no_damage};
+use mg_collecting_room::{collections_take_none, every_takes_none};
 use mg_core::{Core, Place};
-use mg_core_collecting::collect_place;
-use mg_engine_collecting::{collections_are_nobodys, collections_leave, collections_tell_faults};
+use mg_core_collecting::{collect_every, collect_place};
+use mg_engine_collecting::{
+    collections_are_nobodys, collections_leave, collections_tell_faults, every_is_nobodys,
+    every_leaves, every_tells_faults,
+};
 use mg_heap::tables_of_layouts_are_walked;
 use mg_model::{Refusal, Table};
 use mg_row_writes::RowAt;
@@ -53,6 +56,22 @@ impl<D: Disk> Collects for Engine<D> {
         key_collections_go_on::<D>();
         counts_fit(self.core.damage, self.core.shortages);
         collect_at_key(&mut self.core, t, table, key)
+    }
+
+    /// Collects each record of each table that a committed row of the catalog names, as `collect_place` does.
+    ///
+    /// # Errors
+    ///
+    /// `Offline` exactly where a page write has failed before; `DiskRead`, `Damaged` and `Memory` as the catalog and the
+    /// records are read; `DiskWrite` where a batch has pages written out before it. What has gone by then stays gone.
+    fn collect_all(&mut self) -> Result<(), Refusal> {
+        every_is_nobodys::<D, Place>();
+        every_leaves::<D, Place>();
+        every_tells_faults::<D>();
+        every_takes_none::<D>();
+        every_meets_no_damage::<D>();
+        counts_fit(self.core.damage, self.core.shortages);
+        collect_every(&mut self.core)
     }
 }
 

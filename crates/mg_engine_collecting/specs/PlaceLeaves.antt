@@ -88,7 +88,7 @@ dead_uncommitted Dead is = refl
 dead_uncommitted Committed is = absurd cc
 
 -- the newest version is of a committed transaction, or another one stands behind it
-abbrev HaveSettled : (ℕ → TxState) → List Entry → Type 0
+abbrev pub HaveSettled : (ℕ → TxState) → List Entry → Type 0
 HaveSettled state [] = ⊥
 HaveSettled state (e ∷ []) = is_committed (state (writer e)) ≡ true
 HaveSettled state (e ∷ d ∷ es) = Unit {0}
@@ -265,7 +265,7 @@ module _ (o : Opening) (h : Entries) (live : State) (stands : BasesStandFor o h 
     unless = unless_erased (without_unneeded state live (without_dead state (e ∷ es)));
   }
 
-  settled_left : (es : List Entry) → EachBack (λ (e : Entry). is_committed (state (writer e)) ≡ true) es
+  pub settled_left : (es : List Entry) → EachBack (λ (e : Entry). is_committed (state (writer e)) ≡ true) es
       → HaveSettled state es → IsLeft o h (versions es) (versions (remaining state live es))
   settled_left [] backs settled = absurd settled
   settled_left (e ∷ []) backs settled = (
@@ -274,7 +274,7 @@ module _ (o : Opening) (h : Entries) (live : State) (stands : BasesStandFor o h 
   )
   settled_left (e ∷ d ∷ es) backs settled = remains e (d ∷ es) backs
 
-  lone_left : (e : Entry) → is_committed (state (writer e)) ≡ false
+  pub lone_left : (e : Entry) → is_committed (state (writer e)) ≡ false
       → IsLeft o h (versions (e ∷ [])) (versions (e ∷ []))
   lone_left e no_ = ((λ is. absurd (not_committed (state (writer e)) no_ is)), (λ never. refl))
 
@@ -287,7 +287,7 @@ one_link : (l m : Link) → Some l ≡ Some m → l ≡ m
 one_link l m is = cc
 
 -- versions in order are by the same transactions as those of a reading
-same_writers : (cells_ : Cells) (es rs : List Entry) → AreLinked cells_ es → Chain cells_ (first_link es) rs
+pub same_writers : (cells_ : Cells) (es rs : List Entry) → AreLinked cells_ es → Chain cells_ (first_link es) rs
     → map writer es ≡ map writer rs
 same_writers cells_ [] rs linked chain = by rs (chain_opens cells_ None rs chain)
   where
@@ -319,7 +319,7 @@ each_by P (e ∷ es) (d ∷ ds) same each =
     let first : writer e ≡ writer d = cc in let rest : map writer es ≡ map writer ds = cc in
     (subst P (sym first) each.0, each_by P es ds rest each.1)
 
-back_by : (P : ℕ → Type 0) (es rs : List Entry) → map writer es ≡ map writer rs
+pub back_by : (P : ℕ → Type 0) (es rs : List Entry) → map writer es ≡ map writer rs
     → EachBack (λ (e : Entry). P (writer e)) rs → EachBack (λ (e : Entry). P (writer e)) es
 back_by P [] rs same each = tt
 back_by P (e ∷ es) [] same each = absurd cc
@@ -330,11 +330,11 @@ each_of : (P Q : Entry → Type 0) → ((e : Entry) → P e → Q e) → (es : L
 each_of P Q f [] each = tt
 each_of P Q f (e ∷ es) each = (f e each.0, each_of P Q f es each.1)
 
-back_of : (P Q : Entry → Type 0) → ((e : Entry) → P e → Q e) → (es : List Entry) → EachBack P es → EachBack Q es
+pub back_of : (P Q : Entry → Type 0) → ((e : Entry) → P e → Q e) → (es : List Entry) → EachBack P es → EachBack Q es
 back_of P Q f [] each = tt
 back_of P Q f (e ∷ es) each = each_of P Q f es each
 
-left_committed : (x : TxState) → left_by true x ≡ Committed → is_committed x ≡ true
+pub left_committed : (x : TxState) → left_by true x ≡ Committed → is_committed x ≡ true
 left_committed Active is = absurd cc
 left_committed Limbo is = absurd cc
 left_committed Dead is = absurd cc
@@ -350,7 +350,7 @@ told_gone true es left fewer =
     let one = kept_length es in let two = kept_length left in omega (arith, one, two, fewer)
 told_gone false es left same = ap (λ (fs : List Entry). map kept_of fs) same
 
-no_link : (es : List Entry) → first_link es ≡ None → es ≡ []
+pub no_link : (es : List Entry) → first_link es ≡ None → es ≡ []
 no_link [] is = refl
 no_link (e ∷ es) is = absurd cc
 

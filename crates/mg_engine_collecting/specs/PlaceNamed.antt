@@ -84,7 +84,7 @@ module _ (size : ℕ) (state : ℕ → TxState) (pages : Pages) (layout : Layout
   by_version e committed (inr (inr (inr made))) =
       let both : Limbo ≡ Committed = sym made.limbo.limbo ∙ (ap f.state made.its_own ∙ committed) in absurd cc
 
-  named : IsNamed f r layout.catalog.table its.name
+  pub named : IsNamed (facts_by (left_state everyone state) pages layout) r layout.catalog.table its.name
   named = by (r rec) (chain_opens (cells_of pages) (Some settled.link) (r rec)
       (subst (λ (l : Option Link). Chain (cells_of pages) l (r rec)) settled.leads (sound.records.reads rec its of)))
       (sound.own_tables rec its of) (sound.records.each rec its of).backs

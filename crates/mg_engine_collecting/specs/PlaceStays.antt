@@ -1,6 +1,6 @@
 -- A record at a place is collected by an engine for a transaction that was given the table: it is nobody's event. What the
 -- engine stands for, whoever walks, asked commits and sessions go on as they were, and a crash leaves what it left.
-use Rattle.std.proofs.Common.{◌≡◌, ◌∙◌, ◌⊎◌, ◌+◌, inl, inr, refl, sym, ap, subst, arith, ◌≤◌, ◌^◌, ◌-◌, ℕ, Bool, true, None, Option, Some, Result, Ok, Err}
+use Rattle.std.proofs.Common.{◌≡◌, ◌∙◌, ◌⊎◌, ◌+◌, inl, inr, refl, sym, subst, arith, ◌≤◌, ◌^◌, ◌-◌, ℕ, Bool, true, None, Option, Some, Result, Ok, Err}
 use Rattle.std.specs.Prelude.{IfErr}
 use Rattle.mg_base.specs.Disk.{Meaning}
 use Rattle.mg_base.specs.Image.{Image}
@@ -81,11 +81,11 @@ refused_outer offline state refusal works refuses = absurd refuses
 -- ---- where a collection stops
 
 -- From a store on pages were only read, or a page write failed, and the fault is told.
-record StopsFrom {D : Type 0} (m : Meaning D) (before after : Pool D FireLinks) (fault : SpaceFault) : Type 0 where
-  left : KeepsStore m before after ⊎ FailsReady m before after fault
-  told : TellsOf m before after fault
+pub record StopsFrom {D : Type 0} (m : Meaning D) (before after : Pool D FireLinks) (fault : SpaceFault) : Type 0 where
+  pub left : KeepsStore m before after ⊎ FailsReady m before after fault
+  pub told : TellsOf m before after fault
 
-stops_from : {D : Type 0} (m : Meaning D) (rec : RecId) (before after : Pool D FireLinks) (fault : SpaceFault)
+pub stops_from : {D : Type 0} (m : Meaning D) (rec : RecId) (before after : Pool D FireLinks) (fault : SpaceFault)
     → FailsStep m rec before after fault → StopsFrom m before after fault
 stops_from m rec before after fault (not_read fails) =
     record { left = inl fails.keeps; told = told_of m before after fault fails.told }

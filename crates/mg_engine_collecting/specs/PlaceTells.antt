@@ -31,7 +31,7 @@ module _ {D : Type 0} (m : Meaning D) (k : FaultCount) (state : ℕ → TxState)
   step_stands before after (drops_unneeded newer gone own) = own_stands m k before after own
   step_stands before after (takes_erased own) = own_stands m k before after own
 
-  steps_stand : (start : Pool D FireLinks) (some : Bool) (now : Pool D FireLinks)
+  pub steps_stand : (start : Pool D FireLinks) (some : Bool) (now : Pool D FireLinks)
       → Steps m state live rec start some now → Stands m k start now
   steps_stand start b p starts = refl
   steps_stand start b p (reads_on some now after steps keeps online) =
@@ -39,7 +39,7 @@ module _ {D : Type 0} (m : Meaning D) (k : FaultCount) (state : ℕ → TxState)
   steps_stand start b p (one_more some now after steps step) =
       step_stands now after step ∙ steps_stand start some now steps
 
-  stop_told : (before after : Pool D FireLinks) (fault : SpaceFault) → FailsStep m rec before after fault
+  pub stop_told : (before after : Pool D FireLinks) (fault : SpaceFault) → FailsStep m rec before after fault
       → is_disks k fault ≡ false → Stands m k before after
   stop_told before after fault (not_read fails) quiet = told m k (Unit {0}) before after fault fails.told quiet
   stop_told before after fault (not_dropped holder newer follows own) quiet = own_told m k before after fault own quiet

@@ -39,6 +39,7 @@ use Rattle.mg_space.specs.Taking.{IsGeometry}
 use Rattle.mg_space.specs.View.{KeepsStore, Tells}
 use Rattle.mg_space.specs.declared.links.FireLinks.{FireLinks}
 use Rattle.mg_txlist.specs.declared.list.TxList.{TxList}
+use Rattle.mg_engine_collecting.specs.StandStill.{StandStill, still_here, still_then}
 use Rattle.mg_engine_collecting.specs.StepStays.{IsInNamed, ShowsRecord, StepStays, step_stays}
 
 -- ---- the store
@@ -126,6 +127,7 @@ module _ (one : RowsAreOne packed_coding) (one_way : StandsOneWay packed_form) (
     };
     others = λ t u ne works x after rows comes. comes;
     known = λ from dirs was_known. was_known;
+    still = still_here size s.state was;
     shows = record { stands = stands; tips = tips; plain = plain; here = here };
   }
 
@@ -143,6 +145,8 @@ module _ (one : RowsAreOne packed_coding) (one_way : StandsOneWay packed_form) (
             (stays.others t);
         known = subst (λ (d : DirtyPages). StaysKnown size s.state was (shown d stays.image)) (sym keeps.dirty)
             stays.known;
+        still = subst (λ (d : DirtyPages). StandStill size s.state was (shown d stays.image)) (sym keeps.dirty)
+            stays.still;
         shows = subst (λ (g : Geometry). ShowsRecord g.size o h s list (shown after.dirty stays.image) rec table)
             (sym keeps.geometry) (subst (λ (d : DirtyPages). ShowsRecord now.geometry.size o h s list
             (shown d stays.image) rec table) (sym keeps.dirty) stays.shows);
@@ -173,6 +177,9 @@ module _ (one : RowsAreOne packed_coding) (one_way : StandsOneWay packed_form) (
             x from rows (stays.others t u ne works x from rows comes);
         known = λ from dirs was_known. subst (λ (g : Geometry). StaysKnown g.size s.state (shown now.dirty stays.image)
             (shown after.dirty next.image)) gone.goes.geometry next.known from dirs (stays.known from dirs was_known);
+        still = still_then size s.state was (shown now.dirty stays.image) (shown after.dirty next.image) stays.still
+            (subst (λ (g : Geometry). StandStill g.size s.state (shown now.dirty stays.image)
+            (shown after.dirty next.image)) gone.goes.geometry next.still);
         shows = next.shows;
       }
         where

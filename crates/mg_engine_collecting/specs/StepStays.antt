@@ -88,6 +88,7 @@ use Rattle.mg_version.specs.declared.cell.Version.{Version}
 use Rattle.mg_engine_collecting.specs.DropReads.{IsDropped, drop_reads, dropped_of}
 use Rattle.mg_engine_collecting.specs.LeftVersions.{SaysTheSame, versions_left}
 use Rattle.mg_engine_collecting.specs.Remains.{saw_newer, seen_by_all}
+use Rattle.mg_engine_collecting.specs.StandStill.{StandStill, grown_still}
 use Rattle.mg_engine_collecting.specs.StepKeeps.{both_of, changes_of, committed_is, dead_is, finds_kept, step_keeps}
 use Rattle.mg_engine_collecting.specs.StepSays.{covered_says, dead_says, erased_says}
 
@@ -110,7 +111,7 @@ pub record ShowsRecord (size : ℕ) (o : Opening) (h : Entries) (s : Standing) (
   pub here : IsInNamed size s.state pages stands.shows.layout stands.shows.reading rec table
 
 -- A step was made: the pages show the history as they did, the cache lasts with it, a crash leaves what it left, whoever
--- works walks on, directories are complete still, and the record is one of its table.
+-- works walks on, directories are complete still, tables stand where they stood, and the record is one of its table.
 pub record StepStays {D : Type 0} (m : Meaning D) (o : Opening) (h : Entries) (s : Standing) (list : TxList)
     (before after : Pool D FireLinks) (was : Pages) (asked : Asked) (session : Sessions) (rec : RecId) (table : Table)
     : Type 0 where
@@ -121,6 +122,7 @@ pub record StepStays {D : Type 0} (m : Meaning D) (o : Opening) (h : Entries) (s
   pub leaves : LeavesSince m before.disk after.disk (HoldsAcknowledged packed_form before.dirty.size o h)
   pub others : (t : ℕ) → OthersWalkOn before.geometry.size s was (shown after.dirty image) t
   pub known : StaysKnown before.geometry.size s.state was (shown after.dirty image)
+  pub still : StandStill before.geometry.size s.state was (shown after.dirty image)
   pub shows : ShowsRecord after.geometry.size o h s list (shown after.dirty image) rec table
 
 -- ---- lists of stands
@@ -336,6 +338,8 @@ module _ (one : RowsAreOne packed_coding) (one_way : StandsOneWay packed_form) (
           t (λ u ne works. it.shown_same u works);
       known = back_known one_way size s.state pool later shows.layout shows.reading shows.sound rec left it.reads table
           here.of here.no_catalog it.some it.says.keyed;
+      still = grown_still one_way size s.state pool later shows.layout it.reads.layout shows.reading it.reads.reading
+          shows.sound it.reads.sound it.reads.grown;
       shows = subst (λ (g : Geometry). ShowsRecord g.size o h s list later rec table) (sym same) (record {
         stands = stands_later;
         tips = lists list list size pool later refl refl keeps_tips.next keeps_tips.tips tips;

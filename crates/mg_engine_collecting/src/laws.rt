@@ -1,5 +1,8 @@
 //! A collection leaves the history as it was. The functions do nothing: their contracts are the laws.
 
+ghost use Rattle.mg_engine_collecting.specs.EveryLeaves.{EveryLeaves};
+ghost use Rattle.mg_engine_collecting.specs.EverySo.{EveryIsNobodys};
+ghost use Rattle.mg_engine_collecting.specs.EveryTells.{EveryTells};
 ghost use Rattle.mg_engine_collecting.specs.PlaceLeaves.{CollectionsLeave};
 ghost use Rattle.mg_engine_collecting.specs.PlaceStays.{CollectionsAreNobodys};
 ghost use Rattle.mg_engine_collecting.specs.PlaceTells.{CollectionsTell};
@@ -15,6 +18,7 @@ use mg_heap::tables_of_layouts_are_walked;
 use mg_image::one_reading;
 use mg_image_overlays::sound_images_stand_one_way;
 use mg_model::histories_go_on;
+use mg_seek::records_are_those_of_every_reading;
 use mg_space::FireLinks;
 
 /// What remains of a record's versions stands for the same history.
@@ -57,4 +61,42 @@ pub fn collections_leave<D: Disk, P>()
 /// It tells each fault of the disk.
 pub fn collections_tell_faults<D: Disk>()
     ensures { CollectionsTell D D.meaning }
+{}
+
+/// The collection of every record of the committed tables is nobody's event, made or refused.
+pub fn every_is_nobodys<D: Disk, P>()
+    ensures { EveryIsNobodys D P D.meaning }
+{
+    one_reading();
+    sound_images_stand_one_way();
+    tips_stay();
+    lists_go_on::<D, FireLinks>();
+    writes_keep_plain();
+    garbage_may_go();
+    histories_go_on();
+    records_are_those_of_every_reading();
+    batches_last::<D, FireLinks>();
+    page_writes_go_on::<D, FireLinks>();
+}
+
+/// What is left of each of them is what remains by the history that the engine stands for.
+pub fn every_leaves<D: Disk, P>()
+    ensures { EveryLeaves D P D.meaning }
+{
+    one_reading();
+    sound_images_stand_one_way();
+    tips_stay();
+    lists_go_on::<D, FireLinks>();
+    writes_keep_plain();
+    garbage_may_go();
+    histories_go_on();
+    tables_of_layouts_are_walked();
+    records_are_those_of_every_reading();
+    batches_last::<D, FireLinks>();
+    page_writes_go_on::<D, FireLinks>();
+}
+
+/// It tells each fault of the disk.
+pub fn every_tells_faults<D: Disk>()
+    ensures { EveryTells D D.meaning }
 {}

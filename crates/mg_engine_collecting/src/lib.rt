@@ -13,6 +13,11 @@
 //! same of an engine's core, wherever the collection ends. `PlaceNamed` has why the record's table is one that a committed
 //! row of the catalog names: a version of a committed transaction stands in it.
 //!
+//! Of every record of the committed tables: `Committed` has that the tables which are found are those that committed rows
+//! name; `EveryStays`, that behind each record the pages show the history and tables stand where they stood (`StandStill`);
+//! `EverySo`, that the call is nobody's event; `OneLeft`, what is left of one record, and that all others stay; and
+//! `EveryLeaves`, that of each what remains is left.
+//!
 //! All stands in `specs/`. There is no program here: each function does nothing, and its contract is the law.
 //!
 //! Invariant: none, it keeps no state.
@@ -27,5 +32,5 @@ mod laws;
 
 pub use laws::{
     collections_are_nobodys, collections_leave, collections_stand, collections_tell_faults,
-    steps_keep,
+    every_is_nobodys, every_leaves, every_tells_faults, steps_keep,
 };

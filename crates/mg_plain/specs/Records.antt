@@ -91,6 +91,7 @@ keeps_none = record {
   kept = λ p place versions. versions ≡ [];
   speaks = λ p table key place. Unit {0};
   silent = λ p table key. Unit {0};
+  is_committed = λ p table. Unit {0};
 }
 
 -- Rows were brought into the catalog one after another, until one was refused.

@@ -1,12 +1,12 @@
 -- What a keeper collects is collected of the value in which it stands.
-use Rattle.std.specs.Prelude.{◌≡◌, ◌⊎◌, Bool, false, Result, Ok, Err, IfOk}
+use Rattle.std.specs.Prelude.{◌≡◌, ◌⊎◌, Bool, false, Result, Ok, Err, IfOk, OnOk}
 use Rattle.std.proofs.Common.{inl, inr}
 use Rattle.mg_model.specs.declared.opening.Opening.{Opening}
 use Rattle.mg_model.specs.declared.refusal.Refusal.{Refusal}
 use Rattle.mg_model.specs.declared.table.Table.{Table}
 use Rattle.mg_model.specs.History.{Entries}
 use Rattle.mg_records.specs.Meaning.{Means}
-use Rattle.mg_tending.specs.Collecting.{Collecting, Collects, CollectsKey, SpokenIsCollected}
+use Rattle.mg_tending.specs.Collecting.{Collecting, Collects, CollectsEach, CollectsKey, SpokenIsCollected}
 use Rattle.mg_value.specs.declared.value.Value.{Value}
 use Rattle.mg_recording.specs.Via.{collecting_via, via}
 
@@ -48,3 +48,16 @@ module _ {R P T : Type 0} (m : Means R P) (c : Collecting R P) (keeper : T → R
       })
       on (inr silent) = inr silent
   key_via key (Err refusal) it = it
+
+-- each record of each committed table
+pub each_via : {R P T : Type 0} (m : Means R P) (c : Collecting R P) (keeper : T → R)
+    (knows : T → Opening → Entries → Type 0) (old new : T) (result : Result (Unit {0}) Refusal)
+    → OnOk result (CollectsEach m c (keeper old) (keeper new))
+    → OnOk result (CollectsEach (via m keeper knows) (collecting_via c keeper) old new)
+each_via m c keeper knows old new (Ok done) it = λ o h stands table committed place has versions kept.
+    let left = it o h stands.0 table committed place has versions kept in record {
+      left = left.left;
+      kept = left.kept;
+      is = left.is;
+    }
+each_via m c keeper knows old new (Err refusal) it = it

@@ -52,6 +52,7 @@ collecting_via c keeper = record {
   kept = λ t. c.kept (keeper t);
   speaks = λ t. c.speaks (keeper t);
   silent = λ t. c.silent (keeper t);
+  is_committed = λ t. c.is_committed (keeper t);
 }
 
 -- the line of a finding is put, with what it was answered

@@ -31,4 +31,8 @@ impl<R: Collects> Collects for Recording<R> {
     fn collect_key(&mut self, t: TxNo, table: &Table, key: &Key) -> Result<bool, Refusal> {
         self.keeper.collect_key(t, table, key)
     }
+
+    fn collect_all(&mut self) -> Result<(), Refusal> {
+        self.keeper.collect_all()
+    }
 }

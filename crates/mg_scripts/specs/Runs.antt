@@ -30,7 +30,6 @@ use Rattle.mg_scripts.specs.declared.lines.LinesEnd.TheVariants.{Whole, Stopped,
 
 -- lines of this form are obeyed
 abbrev pub is_known : LineKind → Bool
-is_known kinds.Collect = false
 is_known (kinds.Sweep most) = false
 is_known (kinds.Prepare session) = false
 is_known kind = true

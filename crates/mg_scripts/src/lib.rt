@@ -5,7 +5,7 @@
 //! live (`specs/Ending`). What comes of lines is said by `mg_transcript` (`AreObeyed`, `AreCutShort`): one history
 //! that the keeper stands for then. The sink has its transcript (`specs/Runs`: `PrintsSo`).
 //!
-//! Lines of forms that are not obeyed yet (`@collect`, `@sweep`, `@prepare`) are bad lines (`read_as`).
+//! Lines of forms that are not obeyed yet (`@sweep`, `@prepare`) are bad lines (`read_as`).
 //!
 //! A run stops by an answer (the disk failed, a page is damaged, memory is short), for want of memory for an answer,
 //! or by a sink that failed.

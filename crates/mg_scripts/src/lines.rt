@@ -137,7 +137,7 @@ fn is_known(kind: &LineKind) -> bool
     ensures { result ≡ is_known_of kind.now }
 {
     match kind {
-        LineKind::Collect | LineKind::Sweep { .. } | LineKind::Prepare { .. } => false,
+        LineKind::Sweep { .. } | LineKind::Prepare { .. } => false,
         _ => true,
     }
 }

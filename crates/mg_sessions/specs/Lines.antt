@@ -20,14 +20,14 @@ use Rattle.mg_transcript.specs.Lines.{RefusesText}
 use Rattle.mg_pending.specs.declared.pending.Pending.{Pending}
 use Rattle.mg_pending.specs.Statements.{has_statement}
 
--- A line that is obeyed. `@collect`, `@sweep` and `@prepare` are not yet.
+-- A line that is obeyed. `@sweep` and `@prepare` are not yet.
 abbrev pub IsObeyable : LineKind → Type 0
 IsObeyable (kinds.Sql session text) = session.0 < SESSIONS
 IsObeyable (kinds.Held session text) = (session.0 < SESSIONS) × MayBeHeld text
 IsObeyable (kinds.Step session most) = (session.0 < SESSIONS) × (1 ≤ most)
 IsObeyable (kinds.Go session) = session.0 < SESSIONS
 IsObeyable (kinds.Write most) = Unit {0}
-IsObeyable kinds.Collect = ⊥
+IsObeyable kinds.Collect = Unit {0}
 IsObeyable (kinds.Sweep most) = ⊥
 IsObeyable (kinds.Prepare session) = ⊥
 IsObeyable (kinds.Put key value) = Unit {0}

@@ -15,10 +15,11 @@
 //!
 //! Invariant: none of its own; that of the sessions is `AreReady` of `mg_pending`.
 //! Below: `mg_pending`, `mg_courses`, and `mg_shorthand` for `@put` and `@get`. Above: the program.
-//! Not here: `@collect`, `@sweep` and `@prepare`, what `@put` and `@get` do in their transaction, which
+//! Not here: `@sweep` and `@prepare`, what `@put` and `@get` do in their transaction, which
 //! statement goes on at a line, and where lines come from and go to.
 #![tactic(auto)]
 
+mod collecting;
 mod holding;
 mod line;
 mod shorthand;

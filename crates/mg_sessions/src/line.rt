@@ -12,6 +12,7 @@ ghost use Rattle.mg_sessions.specs.Accounts.{Accounts};
 ghost use Rattle.mg_sessions.specs.Coming.{ComesTo};
 ghost use Rattle.mg_sessions.specs.Lines.{IsObeyable, WritesPages};
 
+use crate::collecting::obey_collect;
 use crate::holding::{obey_go, obey_step};
 use crate::shorthand::{obey_get, obey_put};
 use crate::statements::{obey_held, obey_sql};
@@ -65,8 +66,9 @@ where
             let wanted = number_of(key);
             obey_get(r, alloc, sessions, size, wanted)
         }
+        LineKind::Collect => obey_collect(r, sessions),
         // No such line is handed to this call.
-        LineKind::Collect | LineKind::Sweep { .. } | LineKind::Prepare { .. } => Reply::Bad,
+        LineKind::Sweep { .. } | LineKind::Prepare { .. } => Reply::Bad,
     }
 }
 

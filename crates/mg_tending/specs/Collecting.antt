@@ -25,6 +25,8 @@ pub record Collecting (R P : Type 0) : Type 1 where
   -- the record at a place speaks for a key of the table: a row with the key is looked for there; no record speaks for it
   pub speaks : R → Table → Value → P → Type 0
   pub silent : R → Table → Value → Type 0
+  -- the table is one that committed rows of the catalog name
+  pub is_committed : R → Table → Type 0
 
 -- ---- what remains
 
@@ -124,6 +126,21 @@ pub record SpokenIsCollected {R P : Type 0} (m : Means R P) (c : Collecting R P)
 abbrev pub CollectsKey : {R P : Type 0} → Means R P → Collecting R P → R → R → Table → Value → Bool → Type 0
 CollectsKey m c old new table key gone = (o : Opening) (h : Entries) → m.stands old o h
     → SpokenIsCollected m c old new table key gone ⊎ (c.silent old table key × (gone ≡ false))
+
+-- ---- all records
+
+-- Of the record at a place, which had these versions, those are left that remain.
+pub record IsCollected {R P : Type 0} (c : Collecting R P) (new : R) (o : Opening) (h : Entries) (place : P)
+    (versions : List Kept) : Type 0 where
+  pub left : List Kept
+  pub kept : c.kept new place left
+  pub is : IsLeft o h versions left
+
+-- So it is of each record of each committed table, by each history that the keeper stood for.
+abbrev pub CollectsEach : {R P : Type 0} → Means R P → Collecting R P → R → R → Type 0
+CollectsEach {P = P} m c old new = (o : Opening) (h : Entries) → m.stands old o h → (table : Table)
+    → c.is_committed old table → (place : P) → c.has_record old table place → (versions : List Kept)
+    → c.kept old place versions → IsCollected c new o h place versions
 
 -- walks are as far from their ends as they were
 abbrev pub AreAsFar : {R P : Type 0} → Means R P → R → R → Type 0

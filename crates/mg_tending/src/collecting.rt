@@ -1,6 +1,6 @@
 //! A keeper of records that collects what its readers come to.
 
-ghost use Rattle.std.specs.Prelude.{◌≡◌, true, None, Some, IfErr, IfOk};
+ghost use Rattle.std.specs.Prelude.{◌≡◌, true, None, Some, IfErr, IfOk, OnOk};
 ghost use Rattle.mg_model.specs.declared.answer.Answer.TheVariants.{No};
 ghost use Rattle.mg_model.specs.declared.opening.Opening.{Opening};
 ghost use Rattle.mg_model.specs.History.{Entries};
@@ -10,7 +10,7 @@ ghost use Rattle.mg_records.specs.Crashing.{LeavesQuietly};
 ghost use Rattle.mg_records.specs.Keeping.{FaultsAreTold, MeetsNoDamage, Reads, refusal_in};
 ghost use Rattle.mg_records.specs.Room.{TakesFew};
 ghost use Rattle.mg_records.specs.Sessions.{SessionsStay};
-ghost use Rattle.mg_tending.specs.Collecting.{AreAsFar, Collecting, Collects as CollectsOf, CollectsKey};
+ghost use Rattle.mg_tending.specs.Collecting.{AreAsFar, Collecting, Collects as CollectsOf, CollectsEach, CollectsKey};
 
 use mg_base::TxNo;
 use mg_model::{Refusal, Table};
@@ -61,6 +61,23 @@ pub trait Collects: Records {
     fn collect_key(&mut self, t: TxNo, table: &Table, key: &Key) -> Result<bool, Refusal>
         requires table { Self.meaning.table self.old t.0 table.now.name ≡ Some table.now }
         ensures collects { IfOk result (CollectsKey Self.meaning collecting self.old self.new table.now key.now) }
+        ensures outside { IfErr result (λ refusal. is_outer (No refusal) ≡ true) }
+        ensures reads { Reads Self.meaning self.old self.new (refusal_in result) None }
+        ensures told { FaultsAreTold Self.meaning self.old self.new (refusal_in result) }
+        ensures undamaged { MeetsNoDamage Self.meaning self.old self.new }
+        ensures room { TakesFew Self.meaning self.old self.new (refusal_in result) 0 }
+        ensures unpaged { (o : Opening) (h : Entries) → Self.meaning.stands self.old o h
+            → TakesNoPage (refusal_in result) }
+        ensures crash { LeavesQuietly Self.meaning self.old self.new }
+        ensures sessions { SessionsStay Self.meaning self.old self.new None None };
+
+    /// Collects each record of each committed table, as `collect_place` does, whoever works.
+    ///
+    /// # Errors
+    ///
+    /// As `collect_place`, at the first record that is not collected.
+    fn collect_all(&mut self) -> Result<(), Refusal>
+        ensures collects { OnOk result (CollectsEach Self.meaning collecting self.old self.new) }
         ensures outside { IfErr result (λ refusal. is_outer (No refusal) ≡ true) }
         ensures reads { Reads Self.meaning self.old self.new (refusal_in result) None }
         ensures told { FaultsAreTold Self.meaning self.old self.new (refusal_in result) }

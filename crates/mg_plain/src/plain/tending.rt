@@ -24,4 +24,8 @@ impl Collects for Plain {
     fn collect_key(&mut self, _t: TxNo, _table: &Table, _key: &Key) -> Result<bool, Refusal> {
         Ok(false)
     }
+
+    fn collect_all(&mut self) -> Result<(), Refusal> {
+        Ok(())
+    }
 }

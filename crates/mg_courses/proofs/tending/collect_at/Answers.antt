@@ -1,5 +1,6 @@
 use Rattle.std.proofs.Common.{None, Some}
-use Rattle.mg_courses.proofs.VisitedLemmas.{aside_collected, one_visited, still_there, stops_visited, visited_table}
+use Rattle.mg_courses.specs.AsideLaws.{aside_reading}
+use Rattle.mg_courses.proofs.VisitedLemmas.{one_visited, still_there, stops_visited, visited_table}
 use Rattle.mg_courses.proofs.tending.collect_at.Goals as goal
 
 pub collect_place-requires : goal.collect_place-requires
@@ -14,11 +15,11 @@ returns-in-Ok-clause-collects g c = one_visited g.R.Records.meaning g.R.Collects
     c.in-Ok.ensures.collects
 
 pub returns-in-Ok-clause-aside : goal.returns-in-Ok-clause-aside
-returns-in-Ok-clause-aside g c = aside_collected g.R.Records.meaning c.args.r.now c.collect_place.new.self None
+returns-in-Ok-clause-aside g c = aside_reading g.R.Records.meaning c.args.r.now c.collect_place.new.self None
     c.in-Ok.ensures.reads c.in-Ok.ensures.told c.in-Ok.ensures.undamaged c.in-Ok.ensures.crash c.in-Ok.ensures.sessions
 
 pub returns-in-Err-clause-aside : goal.returns-in-Err-clause-aside
-returns-in-Err-clause-aside g c = aside_collected g.R.Records.meaning c.args.r.now c.collect_place.new.self
+returns-in-Err-clause-aside g c = aside_reading g.R.Records.meaning c.args.r.now c.collect_place.new.self
     (Some c.in-Err.refusal) c.in-Err.ensures.reads c.in-Err.ensures.told c.in-Err.ensures.undamaged
     c.in-Err.ensures.crash c.in-Err.ensures.sessions
 

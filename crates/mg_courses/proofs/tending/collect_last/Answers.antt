@@ -1,6 +1,7 @@
 use Rattle.std.proofs.Common.{ap, inl, sym, ◌∙◌}
 use Rattle.std.specs.Option.{option_copied}
-use Rattle.mg_courses.proofs.VisitedLemmas.{aside_nothing, none_visited}
+use Rattle.mg_courses.specs.AsideLaws.{aside_nothing}
+use Rattle.mg_courses.proofs.VisitedLemmas.{none_visited}
 use Rattle.mg_courses.proofs.tending.collect_last.Goals as goal
 
 pub returns-in-None-clause-collects : goal.returns-in-None-clause-collects
