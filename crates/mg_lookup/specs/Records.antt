@@ -1,5 +1,5 @@
 -- The records that the entries of a key name.
-use Rattle.std.specs.Prelude.{◌≡◌, ℕ, List, Result, Ok, Err}
+use Rattle.std.specs.Prelude.{◌≡◌, ℕ, List, Option, None, Some, Result, Ok, Err}
 use Rattle.std.specs.declared.alloc.Global.{Global}
 use Rattle.std.specs.declared.vec.Vec.{Vec}
 use Rattle.mg_base.specs.declared.numbers.RecId.{RecId}
@@ -37,3 +37,11 @@ NamesRecords view root key (Err (OfPool fault)) = Unit {0}
 
 abbrev pub GivesRecords : Pages → ℕ → Value → Result (Vec RecId Global) SpaceFault → Type 0
 GivesRecords view root key result = NamesRecords view root (key_bytes key) result
+
+-- the records of a key are given as candidates; or the cache refuses
+abbrev pub GivesCandidates : Pages → ℕ → Value → Result (Option (Vec RecId Global)) SpaceFault → Type 0
+GivesCandidates view root key (Ok None) = ⊥
+GivesCandidates view root key (Ok (Some found)) = AreNamed view root (key_bytes key) found.items
+GivesCandidates view root key (Err (Full limit)) = ⊥
+GivesCandidates view root key (Err (OfPage damage)) = ⊥
+GivesCandidates view root key (Err (OfPool fault)) = Unit {0}

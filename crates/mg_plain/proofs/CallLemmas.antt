@@ -376,7 +376,7 @@ drop_get (y ∷ xs) zero x is = let same : x ≡ y = cc in ap (λ (z : Value × 
 drop_get (y ∷ xs) (suc i) x is =
     let further : suc i + 1 ≡ suc (i + 1) = omega arith in rw further (drop_get xs i x is)
 
-drop_none : (xs : KeyedRows) (i : ℕ) → None ≡ slice_get xs i → drop i xs ≡ []
+pub drop_none : (xs : KeyedRows) (i : ℕ) → None ≡ slice_get xs i → drop i xs ≡ []
 drop_none [] zero is = refl
 drop_none [] (suc i) is = refl
 drop_none (y ∷ xs) zero is = absurd cc
@@ -388,7 +388,7 @@ get_past [] i past = refl
 get_past (x ∷ xs) zero past = absurd (omega arith)
 get_past (x ∷ xs) (suc i) past = get_past xs i (omega arith)
 
-some_found : (x : Option (Value × Cells)) (rows : KeyedRows) (i : ℕ) → x ≡ slice_get rows i → i < length rows
+pub some_found : (x : Option (Value × Cells)) (rows : KeyedRows) (i : ℕ) → x ≡ slice_get rows i → i < length rows
     → drop i rows ≡ with_found x (drop (i + 1) rows)
 some_found (Some row) rows i is below = drop_get rows i row is
 some_found None [] i is below = absurd (omega arith)

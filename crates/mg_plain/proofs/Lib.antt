@@ -15,3 +15,4 @@ mod ObeyLemmas
 mod SessionLemmas
 mod CallLemmas
 mod OwnKeyLemmas
+mod IndexLemmas

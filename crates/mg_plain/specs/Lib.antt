@@ -7,3 +7,4 @@ pub mod Beginning
 pub mod Obeying
 pub mod Records
 pub mod RecordsLaws
+pub mod Indexed

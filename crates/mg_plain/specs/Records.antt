@@ -10,6 +10,7 @@ use Rattle.mg_value.specs.declared.shape.TheConstants.{MOST_COLUMNS}
 use Rattle.mg_value.specs.declared.value.Value.TheVariants.{Null}
 use Rattle.mg_model.specs.declared.opening.Opening.{Opening}
 use Rattle.mg_model.specs.declared.refusal.Refusal.{Refusal}
+use Rattle.mg_model.specs.declared.table.Index.{Index}
 use Rattle.mg_model.specs.declared.table.Table.{Table}
 use Rattle.mg_model.specs.Changes.{Cells, KeyedRows, rows_of, same_key}
 use Rattle.mg_model.specs.History.{Entries}
@@ -34,11 +35,15 @@ abbrev pub behind : Option ℕ → ℕ
 behind None = 0
 behind (Some place) = place
 
--- the table with a shape, which has no pages
+-- the primary index of a table, which has no pages either
+abbrev pub primary : List ℕ → ℕ → Index
+primary name column = record { name = name; column = column; root = record { 0 = 0 } }
+
+-- the table with a shape, which has no pages, with its primary index
 abbrev pub with_shape : List ℕ → Option Shape → Option Table
 with_shape name None = None
 with_shape name (Some shape) =
-    Some (record { name = name; shape = shape; pointer = record { 0 = 0 }; indexes = [] })
+    Some (record { name = name; shape = shape; pointer = record { 0 = 0 }; indexes = primary name shape.key ∷ [] })
 
 -- a shape has no more columns than tables have
 abbrev pub FewColumns : Option Shape → Type 0

@@ -1,5 +1,5 @@
 -- What the plain machine tells as a keeper of records is what the history tells.
-use Rattle.std.specs.Prelude.{◌≡◌, ℕ, List, [], ◌++◌, Option, Some, None, IsPermutation}
+use Rattle.std.specs.Prelude.{◌≡◌, ℕ, List, [], ◌∷◌, ◌++◌, Option, Some, None, IsPermutation}
 use Rattle.std.proofs.Common.{refl, sym, ap, subst, arith, ◌∙◌}
 use Rattle.std.proofs.lemmas.Bool.{false≢true}
 use Rattle.std.proofs.lemmas.List.Sorted.{IsPermutation-refl}
@@ -18,7 +18,7 @@ use Rattle.mg_records.specs.Reading.{TablesAreSeen, WalksAreWhole, shape_named}
 use Rattle.mg_records.specs.Sessions.{SessionsAreOne}
 use Rattle.mg_plain.specs.Keeping.{Keeping, StandsFor, told_in}
 use Rattle.mg_plain.specs.Kept.{kept}
-use Rattle.mg_plain.specs.Records.{means, rows_seen, shape_kept, with_shape}
+use Rattle.mg_plain.specs.Records.{means, primary, rows_seen, shape_kept, with_shape}
 
 -- a transaction sees what the history says
 pub same_view : (o : Opening) (h : Entries) (k : Keeping) (t : ℕ) → StandsFor o h k
@@ -40,7 +40,7 @@ shaped : (name : List ℕ) (shape : Option Shape) (table : Table) → with_shape
     → (table.name ≡ name) × (shape ≡ Some table.shape)
 shaped name None table is = absurd cc
 shaped name (Some shape) table is =
-    let same : record { name = name; shape = shape; pointer = record { 0 = 0 }; indexes = [] } ≡ table = cc in
+    let same : record { name = name; shape = shape; pointer = record { 0 = 0 }; indexes = primary name shape.key ∷ [] } ≡ table = cc in
     (ap (λ (t : Table). t.name) (sym same), ap (λ (t : Table). Some t.shape) same)
 
 pub tables_are_seen : TablesAreSeen means

@@ -16,6 +16,7 @@ use mg_base::{Memory, TxNo};
 use mg_model::{Answer, Change, Event, Opening, PlacedRow, Step};
 use std::alloc::Global;
 
+mod indexed;
 mod judging;
 mod keyed;
 mod obeying;

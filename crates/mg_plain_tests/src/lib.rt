@@ -1,5 +1,5 @@
-//! Tests of the plain machine: scenarios of several transactions, each answer written by hand from the rules, and a walk
-//! of it as a keeper of records.
+//! Tests of the plain machine: scenarios of several transactions, each answer written by hand from the rules, and walks
+//! of it as a keeper of records, over a table and by its index.
 //!
 //! Owns: nothing but the tests. They stand apart from what they test, so that the machine is proved once, and not again
 //! with its tests.

@@ -1,4 +1,5 @@
 //! Tests of the plain machine.
 
+mod indexed;
 mod machine;
 mod records;

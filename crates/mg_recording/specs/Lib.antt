@@ -1,6 +1,7 @@
 pub mod Active
 pub mod ActiveLaws
 pub mod Backs
+pub mod Indexed
 pub mod Knowing
 pub mod KnowingLaws
 pub mod Making

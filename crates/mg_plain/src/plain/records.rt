@@ -1,6 +1,6 @@
 //! The plain machine as a keeper of records.
 
-ghost use Rattle.std.specs.Prelude.{◌≡◌, ◌≤◌, ◌↔◌, ◌&&◌, not, IfOk, IsTrue, OnErr, OnOk, Ok, Some, length};
+ghost use Rattle.std.specs.Prelude.{◌≡◌, ◌≤◌, ◌↔◌, ◌&&◌, ◌∷◌, [], not, IfOk, IsTrue, OnErr, OnOk, Ok, Some, length};
 ghost use Rattle.mg_model.specs.Answers.{is_active};
 ghost use Rattle.mg_model.specs.Machine.{has_point};
 ghost use Rattle.mg_plain.specs.Keeping.{known_of, with_session};
@@ -10,7 +10,7 @@ ghost use Rattle.mg_model.specs.Catalog.{catalog_name, key_of};
 ghost use Rattle.mg_records.specs.Reading.{FindsFitting, StandsUnderKey};
 ghost use Rattle.mg_plain.specs.Obeying.{as_number as as_number_of};
 ghost use Rattle.mg_records.specs.Writing.{rows_made as rows_made_of};
-ghost use Rattle.mg_plain.specs.Records.{means, behind, rows_seen, FoundAt, InsertsAll};
+ghost use Rattle.mg_plain.specs.Records.{means, behind, primary, rows_seen, FoundAt, InsertsAll};
 ghost use Rattle.mg_plain.specs.RecordsLaws.{crashes_hold, holds_on, pages_are_few, sessions_are_one, tables_are_seen, walks_are_whole};
 ghost use Rattle.mg_plain.specs.Kept.{kept};
 
@@ -20,14 +20,14 @@ use crate::lookup::point_place;
 use mg_base::{Memory, PageNo, TxNo};
 use mg_catalog::rows_of;
 use mg_expr::Expr;
-use mg_model::{Answer, CATALOG, Event, Indexes, Mode, Point, Refusal, Rows, Table};
+use mg_model::{Answer, CATALOG, Event, Index, Indexes, Mode, Point, Refusal, Rows, Table};
 use mg_records::{Found, Records, Write};
 use mg_value::{Key, Name, Row, Shape, Value, order, row_fits, values_are_ordered};
 use std::alloc::Global;
 use std::cmp::Ordering;
 
 /// How many rows stand up to a place.
-fn number_behind(after: Option<&usize>) -> usize
+pub(crate) fn number_behind(after: Option<&usize>) -> usize
     ensures { result ≡ behind (option_copied after.entry) }
 {
     match after {
@@ -76,7 +76,7 @@ fn has_key(shape: &Shape, row: &Row, key: &Value) -> bool
 
 /// A copy of a row with its key. One that may not stand under it in a table of the shape, which no call has put there, is
 /// told as want of memory.
-fn keyed(alloc: Global, shape: &Shape, row: &(Value, Row)) -> Result<(Key, Row), Memory>
+pub(crate) fn keyed(alloc: Global, shape: &Shape, row: &(Value, Row)) -> Result<(Key, Row), Memory>
     ensures is { IfOk result (λ keyed. keyed ≡ row.now) }
     ensures stands { IfOk result (λ keyed. StandsUnderKey shape.now (Some keyed)) }
 {
@@ -87,6 +87,19 @@ fn keyed(alloc: Global, shape: &Shape, row: &(Value, Row)) -> Result<(Key, Row),
         return Err(Memory);
     };
     Ok((key, row.1.copy(alloc)?))
+}
+
+/// The list of indexes of a table whose key has this place: the primary one, which has no pages.
+fn primary_index(alloc: Global, name: &Name, column: u16) -> Result<Indexes, Memory>
+    ensures { IfOk result (λ indexes. indexes ≡ primary name.now column ∷ []) }
+{
+    let mut indexes = Vec::new(alloc);
+    indexes.push(Index {
+        name: *name,
+        column,
+        root: PageNo(0),
+    })?;
+    Ok(Indexes::new(indexes))
 }
 
 /// The answer to a beginning as a result.
@@ -199,12 +212,15 @@ impl Records for Plain {
             Err(refusal) => return Err(refusal),
         }
         match self.shape(t.0, name) {
-            Ok(Some(shape)) => Ok(Table {
-                name: *name,
-                shape,
-                pointer: PageNo(0),
-                indexes: Indexes::new(Vec::new(self.alloc)),
-            }),
+            Ok(Some(shape)) => match primary_index(self.alloc, name, shape.key) {
+                Ok(indexes) => Ok(Table {
+                    name: *name,
+                    shape,
+                    pointer: PageNo(0),
+                    indexes,
+                }),
+                Err(_) => Err(Refusal::Memory),
+            },
             Ok(None) => Err(Refusal::NoTable),
             Err(_) => Err(Refusal::Memory),
         }

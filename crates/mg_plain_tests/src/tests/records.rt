@@ -13,7 +13,7 @@ use std::process::Abort;
 use std::test::Fail;
 
 /// A transaction of a session.
-fn begin(plain: &mut Plain, session: u8, snapshot: bool) -> Result<TxNo, Refusal>
+pub(super) fn begin(plain: &mut Plain, session: u8, snapshot: bool) -> Result<TxNo, Refusal>
     requires { session < 32 }
 {
     let mode = Mode {
@@ -34,7 +34,7 @@ fn insert(plain: &mut Plain, t: TxNo, table: &Name, row: Row) -> Result<(), Refu
 }
 
 /// The number that is a row's key and stands in its first column.
-fn number_in(row: &Option<(Key, Row)>) -> Option<i64> {
+pub(super) fn number_in(row: &Option<(Key, Row)>) -> Option<i64> {
     match row {
         Some((key, row)) => match (key.value(), row.as_slice().first()) {
             (Value::Int(key), Some(Value::Int(number))) if key == number => Some(*number),
@@ -64,7 +64,7 @@ fn keys(alloc: Global, plain: &mut Plain, t: TxNo, name: &Name) -> Result<Vec<i6
 }
 
 /// What a call gave, which was not refused.
-fn done<T>(rt: &impl Abort, given: Result<T, Refusal>) -> T {
+pub(super) fn done<T>(rt: &impl Abort, given: Result<T, Refusal>) -> T {
     match given {
         Ok(value) => value,
         Err(refusal) => panic!(rt; "{refusal}"),
@@ -75,7 +75,7 @@ fn done<T>(rt: &impl Abort, given: Result<T, Refusal>) -> T {
 // carried along in the proof of all that follows.
 
 /// Wants the table KV to get the row k, v.
-fn put(
+pub(super) fn put(
     rt: &impl Abort,
     alloc: Global,
     plain: &mut Plain,
