@@ -81,6 +81,11 @@ placed_on h ns n (suc k) has = placed_append ns (records_on h n k)
 
 -- ---- pages
 
+-- a list of no length holds nothing
+pub none_left : {A : Type 0} (xs : List A) → length xs ≡ 0 → xs ≡ []
+none_left [] none = refl
+none_left (x ∷ xs) none = absurd (omega (arith, none))
+
 -- How far the list has come: with the records of the pages that are left it is whole.
 pub record AreListedOver (pages : Pages) (ns rest : List ℕ) (records : List RecId) : Type 0 where
   pub whole : records ++ records_of pages rest ≡ records_of pages ns

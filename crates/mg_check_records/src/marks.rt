@@ -30,6 +30,26 @@ fn mark_number(mark: bool) -> usize
     if mark { 1 } else { 0 }
 }
 
+/// Tells whether a mark is set.
+fn is_set(marks: &[bool], at: usize) -> bool
+    ensures { result ≡ get_or marks.now at false }
+{
+    marks.get(at).copied().unwrap_or(false)
+}
+
+/// How many marks are set.
+fn count_set(marks: &[bool]) -> usize
+    ensures { result ≡ set_below marks.now (length marks.now) }
+{
+    let mut count = 0;
+    for at in 0..marks.len() {
+        let mark = is_set(marks, at);
+        let number = mark_number(mark);
+        count += number;
+    }
+    count
+}
+
 impl Marks {
     /// So many marks, none of which is set.
     ///
@@ -63,10 +83,6 @@ impl Marks {
     pub fn count(&self) -> usize
         ensures { result ≡ set_below self.now (length self.now) }
     {
-        let mut count = 0;
-        for at in 0..self.items.len() {
-            count += mark_number(self.has(at));
-        }
-        count
+        count_set(&self.items)
     }
 }

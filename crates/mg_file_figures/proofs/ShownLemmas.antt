@@ -1,6 +1,6 @@
 -- The row that the versions of a record show.
-use Rattle.std.specs.Prelude.{◌≡◌, ℕ, Bool, true, false, List, [], ◌∷◌, Option, None, Some, Result, Ok, Err, IfOk, if◌then◌else◌}
-use Rattle.std.proofs.Common.{refl, sym, ap, ◌∙◌, subst}
+use Rattle.std.specs.Prelude.{◌≡◌, ℕ, Bool, true, false, List, [], ◌∷◌, Option, None, Some, Result, Ok, Err, IfOk, if◌then◌else◌, length}
+use Rattle.std.proofs.Common.{refl, sym, ap, ◌∙◌, subst, arith}
 use Rattle.mg_base.specs.Image.{Image, page_at}
 use Rattle.mg_base.specs.declared.memory.Memory.{Memory}
 use Rattle.mg_base.specs.declared.transaction.TxState.{TxState}
@@ -11,6 +11,13 @@ use Rattle.mg_image.specs.Records.{shown, writer}
 use Rattle.mg_image.specs.declared.entry.Entry.{Entry}
 use Rattle.mg_limbo_list.specs.declared.tips.Tips.{Tips}
 use Rattle.mg_model.specs.Answers.{is_committed}
+
+-- ---- lists
+
+-- a list of no length holds nothing
+pub none_left : {A : Type 0} (xs : List A) → length xs ≡ 0 → xs ≡ []
+none_left [] none = refl
+none_left (x ∷ xs) none = absurd (omega (arith, none))
 
 pub committed_told : (tips : Tips) (size : ℕ) (image : Image) (t : ℕ) (state : TxState) (result : Bool)
     → tips.size ≡ size → state ≡ state_at tips.size (page_at tips.size image) t

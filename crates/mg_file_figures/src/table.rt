@@ -78,11 +78,13 @@ fn counted(
     ensures { IfOk result (IsToldOne size pages.now holder table.now) }
 {
     let walk = walk_table(alloc, size, pages, table, data_pages)?;
-    if let Some(finding) = first_of(walk.found.as_slice()) {
+    let found = walk.found.as_slice();
+    if let Some(finding) = first_of(found) {
         return Ok(OneTable::Found(finding));
     }
     let records = records_of(alloc, size, pages, table.pointer.0, data_pages)?;
-    let record_count = records.len();
+    let listed = records.as_slice();
+    let record_count = listed.len();
     let version_count = walk.marks.count();
     let page_count = data_pages.len();
     Ok(OneTable::Told(TableFigures {
@@ -112,9 +114,11 @@ pub(crate) fn table_figures(
     ensures { IfOk result (IsToldOne size pages.now holder table.now) }
 {
     let findings = pages_findings(alloc, size, pages, holder, table)?;
-    if let Some(finding) = first_of(findings.as_slice()) {
+    let found = findings.as_slice();
+    if let Some(finding) = first_of(found) {
         return Ok(OneTable::Found(finding));
     }
     let data_pages = data_pages_of(alloc, size, pages, holder, table.pointer.0)?;
-    counted(alloc, size, pages, holder, table, data_pages.as_slice())
+    let placed = data_pages.as_slice();
+    counted(alloc, size, pages, holder, table, placed)
 }

@@ -1,5 +1,5 @@
 use Rattle.mg_base.specs.Image.{page_at}
-use Rattle.mg_check_records.proofs.ListingLemmas.{listed_begin, listed_first, listed_more, listed_whole}
+use Rattle.mg_check_records.proofs.ListingLemmas.{listed_begin, listed_first, listed_more, listed_whole, none_left}
 use Rattle.mg_check_records.proofs.listing.records_of.Goals as goal
 
 pub loop-n-init : goal.loop-n-init
@@ -19,8 +19,8 @@ loop-n-preserved c = listed_more (page_at c.args.size c.args.pages.now) c.args.d
 
 pub returns-clause-records : goal.returns-clause-records
 returns-clause-records c = (listed_whole (page_at c.args.size c.args.pages.now) c.args.data_pages.now
-    c.loop-n.rest.now c.loop-n.records.items c.loop-n.invariant c.in_default.ensures).0
+    c.loop-n.rest.now c.loop-n.records.items c.loop-n.invariant (none_left c.loop-n.rest.now c.in_default.ensures.cases)).0
 
 pub returns-clause-placed : goal.returns-clause-placed
 returns-clause-placed c = (listed_whole (page_at c.args.size c.args.pages.now) c.args.data_pages.now
-    c.loop-n.rest.now c.loop-n.records.items c.loop-n.invariant c.in_default.ensures).1
+    c.loop-n.rest.now c.loop-n.records.items c.loop-n.invariant (none_left c.loop-n.rest.now c.in_default.ensures.cases)).1

@@ -1,6 +1,7 @@
 use Rattle.mg_base.specs.Image.{page_at}
 use Rattle.mg_file_figures.specs.CatalogRows.{committed_at}
 use Rattle.mg_file_figures.proofs.RowsLemmas.{rows_begin, rows_end, rows_go_on, rows_placed, rows_stop}
+use Rattle.mg_file_figures.proofs.ShownLemmas.{none_left}
 use Rattle.mg_file_figures.proofs.catalog_rows.catalog_rows.Goals as goal
 
 pub loop-p-init : goal.loop-p-init
@@ -37,4 +38,4 @@ loop-p-preserved c = rows_go_on (page_at c.args.size c.args.pages.now) c.args.ta
 pub returns : goal.returns
 returns c = rows_end (page_at c.args.size c.args.pages.now) c.args.table.now c.args.data_pages.now
     c.args.size (committed_at c.args.size (page_at c.args.size c.args.pages.now)) c.loop-p.rest.now
-    c.loop-p.marks c.loop-p.rows.items c.loop-p.invariant c.in_default.ensures
+    c.loop-p.marks c.loop-p.rows.items c.loop-p.invariant (none_left c.loop-p.rest.now c.in_default.ensures.cases)

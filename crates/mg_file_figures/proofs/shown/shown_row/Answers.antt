@@ -1,6 +1,6 @@
 use Rattle.mg_base.specs.Image.{page_at}
 use Rattle.mg_file_figures.specs.CatalogRows.{committed_at}
-use Rattle.mg_file_figures.proofs.ShownLemmas.{shown_here, shown_later, shown_none}
+use Rattle.mg_file_figures.proofs.ShownLemmas.{none_left, shown_here, shown_later, shown_none}
 use Rattle.mg_file_figures.proofs.shown.shown_row.Goals as goal
 
 pub returns-then-is_committed : goal.returns-then-is_committed
@@ -17,4 +17,4 @@ loop-entry-preserved c = shown_later (committed_at c.args.size (page_at c.args.s
 
 pub returns : goal.returns
 returns c = shown_none (committed_at c.args.size (page_at c.args.size c.args.pages.now))
-    c.loop-entry.rest.now c.args.entries.now c.in_default.ensures c.loop-entry.invariant
+    c.loop-entry.rest.now c.args.entries.now (none_left c.loop-entry.rest.now c.in_default.ensures.cases) c.loop-entry.invariant

@@ -7,7 +7,7 @@ pub returns-in-Some : goal.returns-in-Some
 returns-in-Some c = records_found c.args.size c.args.pages.now c.args.holder c.args.table.now
     c.args.data_pages.now c.in_ok-walk.walk.marks c.in_ok-walk.walk.found.items c.in-Some.finding
     c.requires.none c.requires.are c.in_ok-walk.ensures.walked c.in_ok-walk.ensures.marks
-    (c.in-Some.ensures.0, sym c.as_slice.ensures.value ∙ c.in-Some.ensures.1)
+    (c.in-Some.ensures.0, sym c.as_slice-found.ensures.value ∙ c.in-Some.ensures.1)
 
 pub returns : goal.returns
 returns c = figures_told c.args.size c.args.pages.now c.args.holder c.args.table.now
@@ -18,6 +18,7 @@ returns c = figures_told c.args.size c.args.pages.now c.args.holder c.args.table
       versions = c.count-version_count.result;
       pages = c.len-page_count.result;
     }) c.requires.none c.requires.are c.in_ok-walk.ensures.walked c.in_ok-walk.ensures.marks
-    (sym c.as_slice.ensures.value ∙ c.in_default.ensures) refl
-    (c.len-record_count.ensures ∙ ap (λ (ps : List RecId). length ps) c.in_ok-records.ensures.records)
+    (sym c.as_slice-found.ensures.value ∙ c.in_default.ensures) refl
+    (c.len-record_count.ensures ∙ ap (λ (ps : List RecId). length ps)
+    (c.as_slice-listed.ensures.value ∙ c.in_ok-records.ensures.records))
     c.count-version_count.ensures c.len-page_count.ensures

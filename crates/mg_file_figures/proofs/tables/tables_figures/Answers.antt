@@ -1,3 +1,4 @@
+use Rattle.mg_file_figures.proofs.ShownLemmas.{none_left}
 use Rattle.mg_file_figures.proofs.TableLemmas.{tables_begin, tables_end, tables_go_on, tables_small, tables_stop}
 use Rattle.mg_file_figures.proofs.tables.tables_figures.Goals as goal
 
@@ -24,4 +25,4 @@ loop-table-preserved c = tables_go_on c.args.size c.args.pages.now c.args.holder
 
 pub returns : goal.returns
 returns c = tables_end c.args.size c.args.pages.now c.args.holder c.args.tables.now c.loop-table.rest.now
-    c.loop-table.told.items c.loop-table.invariant c.in_default.ensures
+    c.loop-table.told.items c.loop-table.invariant (none_left c.loop-table.rest.now c.in_default.ensures.cases)
