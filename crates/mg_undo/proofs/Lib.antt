@@ -1,7 +1,6 @@
 mod Steps
 mod TouchLemmas
 mod Given
-mod WayLemmas
 mod MachineLemmas
 mod PlacesLemmas
 mod PlacingLemmas

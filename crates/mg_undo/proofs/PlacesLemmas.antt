@@ -1,5 +1,5 @@
 -- Places that were pushed, and the entries that they leave.
-use Rattle.std.specs.Prelude.{◌≡◌, ℕ, zero, suc, ◌+◌, ◌-◌, ◌<◌, ◌≤◌, ◌==◌, ◌&&◌, nat_eq, Bool, true, false, List, [], ◌∷◌, length, take, drop, slice_index_or, Option, Some, None, cond, refl}
+use Rattle.std.specs.Prelude.{◌≡◌, ℕ, suc, ◌+◌, ◌-◌, ◌<◌, ◌==◌, ◌&&◌, nat_eq, Bool, true, false, List, [], ◌∷◌, length, take, slice_index_or, Option, Some, None, cond, refl}
 use Rattle.std.proofs.Common.{sym, ◌∙◌, ap, arith}
 use Rattle.std.proofs.lemmas.Bool.{false≢true, eqb-true, eq-eqb}
 use Rattle.std.specs.List.{position_or_len}
@@ -193,22 +193,3 @@ pub repeats_told_at : (floor : ℕ) (p : Push) (pushes : List Push) (entries : L
 repeats_told_at floor p [] entries some is linked = absurd (omega arith)
 repeats_told_at floor p (q ∷ ps) entries some is linked =
     ap (λ (x : Push). is_past floor x.earlier) is ∙ repeats_told floor q ps entries linked
-
--- the same of a push behind newer ones
-pub repeats_told_from : (floor at : ℕ) (p : Push) (pushes : List Push) (entries : List (Place × ℕ))
-    → at < length pushes → p ≡ slice_index_or pushes at p → AreLinked pushes entries
-    → is_past floor p.earlier ≡ repeats_spot floor (drop at (spots_of pushes entries))
-repeats_told_from floor at p [] entries some is linked = absurd (omega (arith, some))
-repeats_told_from floor zero p (q ∷ ps) entries some is linked =
-    repeats_told_at floor p (q ∷ ps) entries some is linked
-repeats_told_from floor (suc at) p (q ∷ ps) entries some is linked =
-    repeats_told_from floor at p ps (undone q entries) (omega (arith, some)) is linked.1
-
--- where there is none, nothing repeats
-pub repeats_none_from : (floor at : ℕ) (pushes : List Push) (entries : List (Place × ℕ)) → length pushes ≤ at
-    → false ≡ repeats_spot floor (drop at (spots_of pushes entries))
-repeats_none_from floor zero [] entries past = refl
-repeats_none_from floor (suc at) [] entries past = refl
-repeats_none_from floor zero (q ∷ ps) entries past = absurd (omega (arith, past))
-repeats_none_from floor (suc at) (q ∷ ps) entries past =
-    repeats_none_from floor at ps (undone q entries) (omega (arith, past))

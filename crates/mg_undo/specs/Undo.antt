@@ -6,7 +6,6 @@ use Rattle.mg_model.specs.Changes.{same_name, same_key}
 use Rattle.mg_undo.specs.declared.changes.Was.{Was}
 use Rattle.mg_undo.specs.declared.changes.Change.{Change}
 use Rattle.mg_undo.specs.declared.points.Standing.{Standing}
-use Rattle.mg_undo.specs.declared.way.Way.{Way}
 
 -- the changes that are kept and the points that stand, the newest first
 pub record State : Type 0 where
@@ -215,17 +214,3 @@ has_table number (c ∷ cs) = c.table == number || has_table number cs
 abbrev pub TellsTable : ℕ → State → Bool → Type 0
 TellsTable number state some = (given : List Change) (end : State) → TakesBack state given end
     → some ≡ has_table number given
-
--- ---- a way back, while the list stays
-
--- what is left of a list behind a way
-abbrev pub left_by : State → Way → State
-left_by state way = record {
-  changes = drop way.changes state.changes;
-  points = drop way.points state.points;
-  going_back = way.going_back;
-}
-
--- all that is given from here on is taken back at once: this is what is left
-abbrev pub IsLeft : State → State → Type 0
-IsLeft state left = (given : List Change) (end : State) → TakesBack state given end → left ≡ end

@@ -1,6 +1,6 @@
 //! The changes of a transaction, each with what was before.
 
-ghost use Rattle.std.specs.Prelude.{◌≡◌, ◌-◌, ◌<◌, ◌≤◌, [], ◌∷◌, Some, length, take, drop, IfOk, OnOk, OnErr};
+ghost use Rattle.std.specs.Prelude.{◌≡◌, ◌<◌, ◌≤◌, [], ◌∷◌, length, take, drop, IfOk, OnOk, OnErr};
 ghost use Rattle.mg_undo.specs.Undo.{repeats as repeats_of, settled, since, without_newest, given_as, has_table, newest};
 
 use crate::places::{Places, place_of};
@@ -146,39 +146,6 @@ impl Changes {
         self.places.repeats(floor)
     }
 
-    /// Tells whether a change is of a key that was changed before it, after the first `floor` changes. `at`
-    /// is how many changes are newer.
-    fn repeats_at(&self, at: usize, floor: usize) -> bool
-        ensures { result ≡ repeats_of floor (drop at self.now) }
-    {
-        self.places.repeats_at(at, floor)
-    }
-
-    /// The newest change behind so many that is of no key that was changed before it, after the first
-    /// `floor` changes: how many are newer.
-    pub(crate) fn settled_from(&self, from: usize, floor: usize) -> usize
-        ensures { drop result self.now ≡ settled floor (drop from self.now) }
-    {
-        let mut at = from;
-        while self.len().saturating_sub(at) > floor && self.repeats_at(at, floor) {
-            at += 1;
-        }
-        at
-    }
-
-    /// A copy of a change. `at` is how many changes are newer.
-    ///
-    /// # Errors
-    ///
-    /// `Memory` only.
-    pub(crate) fn copy_at(&self, at: usize, alloc: Global) -> Result<(u32, Key, Was), Memory>
-        requires { at < length self.now }
-        ensures { IfOk result (λ given. Some given ≡ given_as (newest (drop at self.now))) }
-    {
-        let Change { table, key, was } = &self.list[at];
-        Ok((*table, key.copy(alloc)?, was.copy(alloc)?))
-    }
-
     /// Takes the newest change out.
     fn take_newest(&mut self) -> Option<Change>
         ensures newest { result ≡ newest self.old }
@@ -202,15 +169,6 @@ impl Changes {
         ensures { self.new ≡ settled floor self.old }
     {
         while self.len() > floor && self.repeats(floor) {
-            self.take_newest();
-        }
-    }
-
-    /// Drops all changes but the first `floor`.
-    pub(crate) fn drop_to(&mut self, floor: usize)
-        ensures { self.new ≡ drop (length self.old - floor) self.old }
-    {
-        while self.len() > floor {
             self.take_newest();
         }
     }

@@ -23,7 +23,6 @@ mod laws;
 mod places;
 mod points;
 mod undo;
-mod way;
 mod whole;
 
 pub use changes::{Change, Changes, Was};
@@ -34,5 +33,4 @@ pub use laws::{
 pub use places::{Place, Places, Push};
 pub use points::Standing;
 pub use undo::Undo;
-pub use way::Way;
 pub use whole::has_table_key;

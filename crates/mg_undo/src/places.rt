@@ -146,17 +146,6 @@ impl Places {
         }
     }
 
-    /// Tells whether the place of a push was pushed before it, after the first `floor` pushes. `at` is how
-    /// many pushes are newer; false where there is no such push.
-    pub(crate) fn repeats_at(&self, at: usize, floor: usize) -> bool
-        ensures { result ≡ repeats_spot floor (drop at self.now) }
-    {
-        match self.pushes.get(at) {
-            Some(push) => is_past(floor, push.earlier),
-            None => false,
-        }
-    }
-
     /// Takes the newest push away. It takes no memory.
     pub(crate) fn pop(&mut self)
         ensures { self.new ≡ drop 1 self.old }

@@ -1,6 +1,6 @@
 //! The marks and savepoints of a transaction.
 
-ghost use Rattle.std.specs.Prelude.{◌≡◌, ◌<◌, [], IfNone, IfOk, IfSome, drop, length, if◌then◌else◌};
+ghost use Rattle.std.specs.Prelude.{◌≡◌, IfNone, IfOk, IfSome, drop, if◌then◌else◌};
 ghost use Rattle.std.specs.List.{list_any};
 ghost use Rattle.mg_model.specs.Changes.{same_name};
 ghost use Rattle.mg_undo.specs.Undo.{is_goal as goal_test, from_goal, goal_of, floor_of};
@@ -100,48 +100,17 @@ pub(crate) fn floor_at(points: &VecDeque<Standing>) -> Option<usize>
     }
 }
 
-/// The first point behind so many newer ones that is a savepoint of this name, or a mark where no name
-/// is given: how many points are newer. None where there is none.
-pub(crate) fn goal_place(
-    points: &VecDeque<Standing>,
-    from: usize,
-    name: &Option<Name>,
-) -> Option<usize>
-    ensures at { IfSome result (λ at. drop at points.now.items ≡ from_goal name.now (drop from points.now.items)) }
-    ensures within { IfSome result (λ at. at < length points.now.items) }
-    ensures none { IfNone result (from_goal name.now (drop from points.now.items) ≡ []) }
-{
-    for i in from..points.len() {
-        if points[i].is_goal(name) {
-            return Some(i);
-        }
-    }
-    None
-}
-
-/// The same of the point gone back to: the first one behind so many newer ones where a savepoint was
-/// named, else the first mark behind them.
-pub(crate) fn place_to(points: &VecDeque<Standing>, from: usize, going_back: bool) -> Option<usize>
-    ensures at { IfSome result (λ at. drop at points.now.items ≡ goal_of going_back (drop from points.now.items)) }
-    ensures within { IfSome result (λ at. at < length points.now.items) }
-    ensures none { IfNone result (goal_of going_back (drop from points.now.items) ≡ []) }
-{
-    if !going_back {
-        return goal_place(points, from, &None);
-    }
-    if from < points.len() {
-        return Some(from);
-    }
-    None
-}
-
 /// How many changes had been kept when the last savepoint of this name was set, or the last mark where
 /// no name is given. None where there is none.
 pub(crate) fn floor_of_goal(points: &VecDeque<Standing>, name: &Option<Name>) -> Option<usize>
     ensures { result ≡ floor_of (from_goal name.now points.now.items) }
 {
-    let at = goal_place(points, 0, name)?;
-    Some(points[at].at)
+    for i in 0..points.len() {
+        if points[i].is_goal(name) {
+            return Some(points[i].at);
+        }
+    }
+    None
 }
 
 /// How many changes had been kept when the point gone back to was set: the first point where a

@@ -1,14 +1,13 @@
 //! What a transaction has to take back.
 
-ghost use Rattle.std.specs.Prelude.{◌≡◌, ◌<◌, ◌+◌, ◌^◌, ◌&&◌, [], false, true, Some, is_some, IfOk, IfSome, OnOk, OnErr, if◌then◌else◌};
-ghost use Rattle.mg_undo.specs.Undo.{IsLeft, TellsTable, left_by, after_keep, after_retract, after_point, after_back_to, has_point, take_back as taken_back, given_as, state_of};
+ghost use Rattle.std.specs.Prelude.{◌≡◌, ◌&&◌, [], false, true, Some, is_some, IfOk, OnOk, OnErr};
+ghost use Rattle.mg_undo.specs.Undo.{TellsTable, after_keep, after_retract, after_point, after_back_to, has_point, take_back as taken_back, given_as, state_of};
 
 use crate::changes::{Changes, Was};
 use crate::points::{
     Standing, copy_points, drop_to_goal, end_mark, floor_at, floor_of_goal, floor_to, go_to_goal,
-    goal_place, has_goal, place_to,
+    has_goal,
 };
-use crate::way::Way;
 use mg_base::Memory;
 use mg_value::{Key, Name};
 use std::alloc::Global;
@@ -168,73 +167,6 @@ impl Undo {
         }
     }
 
-    /// A way back from here on, on which nothing is passed yet.
-    pub fn way(&self) -> Way
-        ensures { left_by self.now result ≡ self.now }
-    {
-        Way {
-            changes: 0,
-            points: 0,
-            going_back: self.going_back,
-        }
-    }
-
-    /// A way back to the last savepoint of this name. None exactly where no such savepoint stands.
-    pub fn way_to(&self, n: &Name) -> Option<Way>
-        ensures found { is_some result ≡ has_point self.now (Some n.now) }
-        ensures way { IfSome result (λ way. left_by self.now way ≡ after_back_to self.now n.now) }
-    {
-        let points = goal_place(&self.points, 0, &Some(*n))?;
-        Some(Way {
-            changes: 0,
-            points,
-            going_back: true,
-        })
-    }
-
-    /// Gives what `take_back` would give behind a way, in a copy, and goes on by it; the list stays as it
-    /// is.
-    ///
-    /// # Errors
-    ///
-    /// `Memory` only. Then the way is as it was.
-    pub fn give(&self, way: &mut Way, alloc: Global) -> Result<Option<(u32, Key, Was)>, Memory>
-        ensures given { IfOk result (λ given. given ≡ given_as (taken_back (left_by self.now way.old)).given) }
-        ensures after { OnOk result (left_by self.now way.new ≡ (taken_back (left_by self.now way.old)).after) }
-        ensures err { OnErr result (way.new ≡ way.old) }
-    {
-        let Some(point) = place_to(&self.points, way.points, way.going_back) else {
-            way.going_back = false;
-            return Ok(None);
-        };
-        let floor = self.points[point].at;
-        let at = self.changes.settled_from(way.changes, floor);
-        if self.changes.len().saturating_sub(at) > floor {
-            let given = self.changes.copy_at(at, alloc)?;
-            *way = Way {
-                changes: at + 1,
-                points: point,
-                going_back: way.going_back,
-            };
-            return Ok(Some(given));
-        }
-        *way = arrived(at, point, way.going_back);
-        Ok(None)
-    }
-
-    /// Takes back all that is given from here on, without giving it: what `take_back` leaves once it gives
-    /// no more. It takes no memory.
-    pub fn take_all_back(&mut self)
-        ensures { IsLeft self.old self.new }
-    {
-        let going_back = self.going_back;
-        self.going_back = false;
-        if let Some(floor) = go_to_goal(&mut self.points, going_back) {
-            self.changes.drop_to(floor);
-            end_mark(&mut self.points, going_back);
-        }
-    }
-
     /// Takes back the newest change that is left since the point gone back to, and gives its table,
     /// its key, and what the transaction's own change of the key was at that point. A key that was
     /// changed several times since is given once.
@@ -248,23 +180,6 @@ impl Undo {
         let given = take_newest(&mut self.changes, &mut self.points, self.going_back);
         self.going_back = goes_on(self.going_back, &given);
         given
-    }
-}
-
-/// Where a way stands at its point: a mark ends, and a savepoint that was named stays.
-fn arrived(changes: usize, point: usize, going_back: bool) -> Way
-    requires { point < 2 ^ 62 }
-    ensures { result ≡ record {
-      changes = changes;
-      points = if going_back then point else point + 1;
-      going_back = false;
-    } }
-{
-    let points = if going_back { point } else { point + 1 };
-    Way {
-        changes,
-        points,
-        going_back: false,
     }
 }
 
