@@ -13,7 +13,7 @@ use Rattle.mg_node_writing.specs.ChangePromises.{InsertsBehindFirst}
 use Rattle.mg_node_writing.specs.Moves.{entry_len}
 use Rattle.mg_node_writing.specs.NewNodes.{CopiesNode, IsNewNode}
 use Rattle.mg_node_writing.specs.NodeChanges.{InsertsEntry, IsEntryOf, TakesEntry, most_need, room_in}
-use Rattle.mg_tree_overlays.specs.DescentLaws.{ascends, last_has}
+use Rattle.mg_tree_overlay_laws.specs.DescentLaws.{ascends, last_has}
 use Rattle.mg_image.specs.Indexes.{as_fence}
 use Rattle.mg_btree.specs.ChangeLaws.{same_fields}
 use Rattle.mg_btree.specs.Growing.{NamesOne, NamesTwo}

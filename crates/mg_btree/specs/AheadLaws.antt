@@ -7,11 +7,11 @@ use Rattle.mg_node.specs.NodePage.{entries_of, level_in, low_of, right_in}
 use Rattle.mg_image.specs.Form.{Pages}
 use Rattle.mg_image.specs.Indexes.{AreChildren, AreNodes, HasChildren, IsNode, first_level}
 use Rattle.mg_image.specs.Tables.{Has, IsOnce, LinkChain, ended, goes}
-use Rattle.mg_tree_overlays.specs.TreeSteps.{InTree, after, split_levels}
-use Rattle.mg_tree_overlays.specs.TreesBehind.{HasChild}
-use Rattle.mg_tree_overlays.specs.StepLaws.{each_has, first_in, has_right, has_wider}
-use Rattle.mg_tree_overlays.specs.SplitParts.{level_less, tree_right, tree_wider}
-use Rattle.mg_tree_overlays.specs.GrowLaws.{AreChains}
+use Rattle.mg_tree_overlay_laws.specs.TreeSteps.{InTree, after, split_levels}
+use Rattle.mg_tree_overlay_laws.specs.TreesBehind.{HasChild}
+use Rattle.mg_tree_overlay_laws.specs.StepLaws.{each_has, first_in, has_right, has_wider}
+use Rattle.mg_tree_overlay_laws.specs.SplitParts.{level_less, tree_right, tree_wider}
+use Rattle.mg_tree_overlay_laws.specs.GrowLaws.{AreChains}
 use Rattle.mg_btree.specs.Climbing.{IsAhead, IsLeftOf}
 use Rattle.mg_btree.specs.SearchLaws.{chain_once}
 

@@ -15,7 +15,7 @@ use Rattle.mg_space.specs.Taking.{PutsInventory}
 use Rattle.mg_space.specs.View.{AreWhole}
 use Rattle.mg_space.specs.ViewLaws.{whole_on}
 use Rattle.mg_space.specs.declared.fault.SpaceFault.{SpaceFault}
-use Rattle.mg_tree_overlays.specs.TreeBatches.{inventory_of}
+use Rattle.mg_tree_overlay_laws.specs.TreeBatches.{inventory_of}
 use Rattle.mg_btree.specs.declared.growing.TwoPages.{TwoPages}
 use Rattle.mg_btree.specs.declared.halves.Halves.{Halves}
 use Rattle.mg_btree.specs.declared.halves.PageBytes.{PageBytes}

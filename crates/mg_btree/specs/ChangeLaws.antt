@@ -15,11 +15,11 @@ use Rattle.mg_node_writing.specs.NodeChanges.{IsEntryOf, KeepsNode, RemovesEntry
 use Rattle.mg_pool.specs.Batch.{Changed, PutsPage}
 use Rattle.mg_pool.specs.declared.pool.Pool.{Pool}
 use Rattle.mg_space.specs.View.{viewed}
-use Rattle.mg_tree_overlays.specs.TreeSteps.{InTree, Rewrites, StaysUsed}
-use Rattle.mg_tree_overlays.specs.TreeBatches.{ChangesEntries, ChangesTree, IsNoInventory, Remove, done, inventory_of, leaf}
-use Rattle.mg_tree_overlays.specs.BatchLaws.{used_as}
-use Rattle.mg_tree_overlays.specs.DescentLaws.{ascends, before_below, not_below_itself, removed_is_gone, tail_ascends}
-use Rattle.mg_tree_overlays.specs.LeafLaws.{back_has}
+use Rattle.mg_tree_overlay_laws.specs.TreeSteps.{InTree, Rewrites, StaysUsed}
+use Rattle.mg_tree_overlay_laws.specs.TreeBatches.{ChangesEntries, ChangesTree, IsNoInventory, Remove, done, inventory_of, leaf}
+use Rattle.mg_tree_overlay_laws.specs.BatchLaws.{used_as}
+use Rattle.mg_tree_overlay_laws.specs.DescentLaws.{ascends, before_below, not_below_itself, removed_is_gone, tail_ascends}
+use Rattle.mg_tree_overlay_laws.specs.LeafLaws.{back_has}
 use Rattle.mg_btree.specs.declared.node.ReadNode.{ReadNode}
 use Rattle.mg_btree.specs.Changing.{PutsWithout}
 

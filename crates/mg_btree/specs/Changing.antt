@@ -8,8 +8,8 @@ use Rattle.mg_node_writing.specs.NodeChanges.{IsEntryOf, RemovesEntry}
 use Rattle.mg_pool.specs.Batch.{Changed, PutsPage, content_in, lists}
 use Rattle.mg_space.specs.declared.fault.SpaceFault.{SpaceFault}
 use Rattle.mg_space.specs.declared.fault.SpaceFault.TheVariants.{Full, Pool as OfPool, Damaged as OfPage}
-use Rattle.mg_tree_overlays.specs.TreeSteps.{InTree}
-use Rattle.mg_tree_overlays.specs.TreeBatches.{ChangesTree, IsNoInventory, Remove}
+use Rattle.mg_tree_overlay_laws.specs.TreeSteps.{InTree}
+use Rattle.mg_tree_overlay_laws.specs.TreeBatches.{ChangesTree, IsNoInventory, Remove}
 use Rattle.mg_btree.specs.declared.node.ReadNode.{ReadNode}
 use Rattle.mg_btree.specs.RowTakings.{RewritesLeaf}
 use Rattle.mg_btree.specs.Searching.{IsReached}

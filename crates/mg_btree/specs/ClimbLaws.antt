@@ -10,14 +10,14 @@ use Rattle.mg_image.specs.Form.{Pages}
 use Rattle.mg_image.specs.Indexes.{IsNode, IsTree, Levels, above, first_level, lowest}
 use Rattle.mg_image.specs.Tables.{LinkChain, ended, goes}
 use Rattle.mg_pool.specs.Batch.{content_in, lists}
-use Rattle.mg_tree_overlays.specs.TreeSteps.{Grows, InTree, grow_levels, split_levels}
-use Rattle.mg_tree_overlays.specs.TreesBehind.{HasChild, SplitsNamed}
-use Rattle.mg_tree_overlays.specs.TreeBatches.{Add, ChangesTree, EntryChange, beside, done, grows, leaf, splits}
-use Rattle.mg_tree_overlays.specs.StepLaws.{each_has, first_in}
-use Rattle.mg_tree_overlays.specs.SplitParts.{tree_right, tree_wider}
-use Rattle.mg_tree_overlays.specs.GrowLaws.{chains_of, tree_grown}
-use Rattle.mg_tree_overlays.specs.GrowParts.{grow_wider, root_in}
-use Rattle.mg_tree_overlays.specs.PoolLaws.{beside_tree, leaf_tree, split_tree}
+use Rattle.mg_tree_overlay_laws.specs.TreeSteps.{Grows, InTree, grow_levels, split_levels}
+use Rattle.mg_tree_overlay_laws.specs.TreesBehind.{HasChild, SplitsNamed}
+use Rattle.mg_tree_overlay_laws.specs.TreeBatches.{Add, ChangesTree, EntryChange, beside, done, grows, leaf, splits}
+use Rattle.mg_tree_overlay_laws.specs.StepLaws.{each_has, first_in}
+use Rattle.mg_tree_overlay_laws.specs.SplitParts.{tree_right, tree_wider}
+use Rattle.mg_tree_overlay_laws.specs.GrowLaws.{chains_of, tree_grown}
+use Rattle.mg_tree_overlay_laws.specs.GrowParts.{grow_wider, root_in}
+use Rattle.mg_tree_overlay_laws.specs.PoolLaws.{beside_tree, leaf_tree, split_tree}
 use Rattle.mg_btree.specs.AheadLaws.{ahead_also, ahead_from, ahead_higher, ahead_itself, ahead_new, ahead_of_child, ahead_of_new, ahead_of_right, ahead_on, ahead_split, child_on, first_there}
 use Rattle.mg_btree.specs.Changing.{HasNoInventory}
 use Rattle.mg_btree.specs.EachOrderLaws.{HasName, each_append, each_more, each_none, each_root, each_split}

@@ -6,8 +6,8 @@ use Rattle.mg_image.specs.Form.{Pages}
 use Rattle.mg_image.specs.Indexes.{IsTree}
 use Rattle.mg_image.specs.Tables.{Has}
 use Rattle.mg_pool.specs.Batch.{Changed, lists}
-use Rattle.mg_tree_overlays.specs.TreeSteps.{InTree}
-use Rattle.mg_tree_overlays.specs.TreeBatches.{inventory_of}
+use Rattle.mg_tree_overlay_laws.specs.TreeSteps.{InTree}
+use Rattle.mg_tree_overlay_laws.specs.TreeBatches.{inventory_of}
 use Rattle.mg_btree.specs.Inserting.{PutsIn}
 use Rattle.mg_btree.specs.Ordering.{EachOrder}
 

@@ -5,7 +5,7 @@ use Rattle.std.proofs.lemmas.Bool.{and_parts, eqb-true, or_cases}
 use Rattle.mg_base.specs.declared.numbers.PageNo.{PageNo}
 use Rattle.mg_careful.specs.declared.graph.Order.{Order}
 use Rattle.mg_pool.specs.Batch.{lists}
-use Rattle.mg_tree_overlays.specs.TreeBatches.{inventory_of}
+use Rattle.mg_tree_overlay_laws.specs.TreeBatches.{inventory_of}
 use Rattle.mg_btree.specs.Ordering.{EachOrder, before, orders_for, orders_to, root_orders, split_orders}
 
 -- these pages have a number among them

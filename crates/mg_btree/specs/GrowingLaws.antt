@@ -13,13 +13,13 @@ use Rattle.mg_image.specs.Inventory.{is_used}
 use Rattle.mg_node_writing.specs.NewNodes.{CopiesNode}
 use Rattle.mg_pool.specs.Batch.{Changed, content_in, lists}
 use Rattle.mg_space.specs.Taking.{IsGeometry, TakesPage}
-use Rattle.mg_tree_overlays.specs.TreeSteps.{InTree, grow_levels}
-use Rattle.mg_tree_overlays.specs.TreesBehind.{Covers}
-use Rattle.mg_tree_overlays.specs.TreeBatches.{ChangesTree, IsNoInventory, OrdersRoot, Stay, inventory_of}
-use Rattle.mg_tree_overlays.specs.GrowLaws.{chains_of}
-use Rattle.mg_tree_overlays.specs.GrowParts.{grow_wider, root_in}
-use Rattle.mg_tree_overlays.specs.PoolLaws.{pool_changed}
-use Rattle.mg_tree_overlays.specs.TreeHeightLaws.{root_level}
+use Rattle.mg_tree_overlay_laws.specs.TreeSteps.{InTree, grow_levels}
+use Rattle.mg_tree_overlay_laws.specs.TreesBehind.{Covers}
+use Rattle.mg_tree_overlay_laws.specs.TreeBatches.{ChangesTree, IsNoInventory, OrdersRoot, Stay, inventory_of}
+use Rattle.mg_tree_overlay_laws.specs.GrowLaws.{chains_of}
+use Rattle.mg_tree_overlay_laws.specs.GrowParts.{grow_wider, root_in}
+use Rattle.mg_tree_overlay_laws.specs.PoolLaws.{pool_changed}
+use Rattle.mg_tree_overlay_laws.specs.TreeHeightLaws.{root_level}
 use Rattle.mg_btree.specs.PageCountLaws.{grow_count}
 use Rattle.mg_btree.specs.declared.growing.Growth.{Growth}
 use Rattle.mg_btree.specs.declared.halves.PageBytes.{PageBytes}

@@ -14,7 +14,7 @@ use Rattle.mg_space.specs.Taking.{IsGeometry}
 use Rattle.mg_space.specs.View.{viewed}
 use Rattle.mg_space.specs.declared.fault.SpaceFault.{SpaceFault}
 use Rattle.mg_space.specs.declared.fault.SpaceFault.TheVariants.{Damaged as OfPage}
-use Rattle.mg_tree_overlays.specs.TreeBatches.{OrdersRoot, inventory_of}
+use Rattle.mg_tree_overlay_laws.specs.TreeBatches.{OrdersRoot, inventory_of}
 use Rattle.mg_btree.specs.declared.growing.TwoPages.{TwoPages}
 use Rattle.mg_btree.specs.declared.halves.PageBytes.{PageBytes}
 use Rattle.mg_btree.specs.Growing.{TakesTwo}

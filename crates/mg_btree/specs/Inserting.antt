@@ -10,10 +10,10 @@ use Rattle.mg_node_writing.specs.NodeChanges.{InsertsEntry, IsEntryOf}
 use Rattle.mg_pool.specs.Batch.{Changed, PutsPage, content_in, lists}
 use Rattle.mg_space.specs.declared.fault.SpaceFault.{SpaceFault}
 use Rattle.mg_space.specs.declared.fault.SpaceFault.TheVariants.{Full, Pool as OfPool, Damaged as OfPage}
-use Rattle.mg_tree_overlays.specs.TreePages.{all_of}
-use Rattle.mg_tree_overlays.specs.TreeSteps.{InTree}
-use Rattle.mg_tree_overlays.specs.TreesBehind.{Covers}
-use Rattle.mg_tree_overlays.specs.TreeBatches.{Add, ChangesTree, IsNoInventory}
+use Rattle.mg_tree_overlay_laws.specs.TreePages.{all_of}
+use Rattle.mg_tree_overlay_laws.specs.TreeSteps.{InTree}
+use Rattle.mg_tree_overlay_laws.specs.TreesBehind.{Covers}
+use Rattle.mg_tree_overlay_laws.specs.TreeBatches.{Add, ChangesTree, IsNoInventory}
 use Rattle.mg_btree.specs.declared.halves.PageBytes.{PageBytes}
 use Rattle.mg_btree.specs.declared.inserting.Leaf.{Leaf}
 use Rattle.mg_btree.specs.Changing.{HasNoInventory}

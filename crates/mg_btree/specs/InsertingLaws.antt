@@ -17,14 +17,14 @@ use Rattle.mg_pool.specs.declared.pool.Pool.{Pool}
 use Rattle.mg_space.specs.View.{viewed}
 use Rattle.mg_space.specs.declared.fault.SpaceFault.{SpaceFault}
 use Rattle.mg_space.specs.declared.fault.SpaceFault.TheVariants.{Full, Pool as OfPool, Damaged as OfPage}
-use Rattle.mg_tree_overlays.specs.TreeSteps.{InTree, Rewrites}
-use Rattle.mg_tree_overlays.specs.TreesBehind.{Covers}
-use Rattle.mg_tree_overlays.specs.TreeBatches.{Add, ChangesEntries, ChangesTree, HasChanged, Stay, done, leaf}
-use Rattle.mg_tree_overlays.specs.GrowLaws.{chains_of}
-use Rattle.mg_tree_overlays.specs.KeptLaws.{leaf_found}
-use Rattle.mg_tree_overlays.specs.LeafLaws.{back_has}
-use Rattle.mg_tree_overlays.specs.PoolLaws.{pool_changed}
-use Rattle.mg_tree_overlays.specs.SearchLaws.{leaf_has_found}
+use Rattle.mg_tree_overlay_laws.specs.TreeSteps.{InTree, Rewrites}
+use Rattle.mg_tree_overlay_laws.specs.TreesBehind.{Covers}
+use Rattle.mg_tree_overlay_laws.specs.TreeBatches.{Add, ChangesEntries, ChangesTree, HasChanged, Stay, done, leaf}
+use Rattle.mg_tree_overlay_laws.specs.GrowLaws.{chains_of}
+use Rattle.mg_tree_overlay_laws.specs.KeptLaws.{leaf_found}
+use Rattle.mg_tree_overlay_laws.specs.LeafLaws.{back_has}
+use Rattle.mg_tree_overlay_laws.specs.PoolLaws.{pool_changed}
+use Rattle.mg_tree_overlay_laws.specs.SearchLaws.{leaf_has_found}
 use Rattle.mg_btree.specs.declared.halves.PageBytes.{PageBytes}
 use Rattle.mg_btree.specs.ChangeLaws.{either_parts, entry_has, is_entry, leaf_rewrites, viewed_other, viewed_put}
 use Rattle.mg_btree.specs.Halves.{HasPlace, HasRoom, IsPlaceFor, IsRoomy}

@@ -15,7 +15,7 @@ use Rattle.mg_space.specs.View.{Tells, viewed}
 use Rattle.mg_space.specs.ViewLaws.{CountsNow, tells_on}
 use Rattle.mg_space.specs.declared.fault.SpaceFault.{SpaceFault}
 use Rattle.mg_space.specs.declared.fault.SpaceFault.TheVariants.{Damaged as OfPage}
-use Rattle.mg_tree_overlays.specs.TreeSteps.{InTree}
+use Rattle.mg_tree_overlay_laws.specs.TreeSteps.{InTree}
 use Rattle.mg_btree.specs.declared.node.ReadNode.{ReadNode}
 use Rattle.mg_btree.specs.declared.search.Landing.TheVariants.{Here, Right}
 use Rattle.mg_btree.specs.Landings.{ComesBefore, LandsAt}

@@ -16,11 +16,11 @@ use Rattle.mg_space.specs.ViewLaws.{tells_on, whole_on}
 use Rattle.mg_base.specs.declared.geometry.Geometry.{Geometry}
 use Rattle.mg_space.specs.declared.fault.SpaceFault.{SpaceFault}
 use Rattle.mg_space.specs.declared.fault.SpaceFault.TheVariants.{Full, Pool as OfPool, Damaged as OfPage}
-use Rattle.mg_tree_overlays.specs.TreeSteps.{InTree, Rewrites}
-use Rattle.mg_tree_overlays.specs.TreesBehind.{Covers}
-use Rattle.mg_tree_overlays.specs.TreeBatches.{ChangesTree, Remove, done}
-use Rattle.mg_tree_overlays.specs.KeptLaws.{leaf_found}
-use Rattle.mg_tree_overlays.specs.SearchLaws.{leaf_has_found}
+use Rattle.mg_tree_overlay_laws.specs.TreeSteps.{InTree, Rewrites}
+use Rattle.mg_tree_overlay_laws.specs.TreesBehind.{Covers}
+use Rattle.mg_tree_overlay_laws.specs.TreeBatches.{ChangesTree, Remove, done}
+use Rattle.mg_tree_overlay_laws.specs.KeptLaws.{leaf_found}
+use Rattle.mg_tree_overlay_laws.specs.SearchLaws.{leaf_has_found}
 use Rattle.mg_btree.specs.declared.node.ReadNode.{ReadNode}
 use Rattle.mg_btree.specs.declared.root.Root.{Root}
 use Rattle.mg_btree.specs.Searching.{BeginsAt, ComesTo, IsReached}

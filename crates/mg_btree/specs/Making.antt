@@ -6,7 +6,7 @@ use Rattle.mg_image.specs.Form.{Pages}
 use Rattle.mg_pool.specs.Batch.{Changed}
 use Rattle.mg_space.specs.Taking.{RefusesTake}
 use Rattle.mg_space.specs.declared.fault.SpaceFault.{SpaceFault}
-use Rattle.mg_tree_overlays.specs.TreeSteps.{InTree}
+use Rattle.mg_tree_overlay_laws.specs.TreeSteps.{InTree}
 use Rattle.mg_btree.specs.declared.growing.Growth.{Growth}
 use Rattle.mg_btree.specs.declared.growing.TwoPages.{TwoPages}
 use Rattle.mg_btree.specs.declared.halves.Halves.{Halves}

@@ -17,9 +17,9 @@ use Rattle.mg_space.specs.View.{KeepsStore, Tells, viewed}
 use Rattle.mg_space.specs.ViewLaws.{tells_on, viewed_on}
 use Rattle.mg_space.specs.declared.fault.SpaceFault.{SpaceFault}
 use Rattle.mg_space.specs.declared.fault.SpaceFault.TheVariants.{Full, Pool as OfPool, Damaged as OfPage}
-use Rattle.mg_tree_overlays.specs.TreeSteps.{InTree}
-use Rattle.mg_tree_overlays.specs.TreeBatches.{OrdersSplit, inventory_of}
-use Rattle.mg_tree_overlays.specs.GrowParts.{root_in}
+use Rattle.mg_tree_overlay_laws.specs.TreeSteps.{InTree}
+use Rattle.mg_tree_overlay_laws.specs.TreeBatches.{OrdersSplit, inventory_of}
+use Rattle.mg_tree_overlay_laws.specs.GrowParts.{root_in}
 use Rattle.mg_btree.specs.declared.halves.Halves.{Halves}
 use Rattle.mg_btree.specs.declared.halves.PageBytes.{PageBytes}
 use Rattle.mg_btree.specs.declared.making.Split.{Split}

@@ -11,7 +11,7 @@ use Rattle.mg_node.specs.NodePage.{AreAscending, IsBelow, IsNodePage, count_in, 
 use Rattle.mg_node.specs.NodeWalk.{entries_from, place_from}
 use Rattle.mg_node.specs.NodeWalkLaws.{entries_from-add, entries_of-walk, place_from-ascends, place_of-walk}
 use Rattle.mg_image.specs.Indexes.{HasEntry}
-use Rattle.mg_tree_overlays.specs.DescentLaws.{ascends, tail_ascends}
+use Rattle.mg_tree_overlay_laws.specs.DescentLaws.{ascends, tail_ascends}
 use Rattle.mg_btree.specs.OnPage.{IsAlong}
 use Rattle.mg_btree.specs.Searching.{child_to}
 use Rattle.mg_btree.specs.SearchLaws.{stays_to, taken_to}

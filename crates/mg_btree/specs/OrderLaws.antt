@@ -14,7 +14,7 @@ use Rattle.mg_space.specs.Taking.{PutsInventory}
 use Rattle.mg_space.specs.View.{viewed}
 use Rattle.mg_space.specs.ViewLaws.{viewed_else, viewed_here}
 use Rattle.mg_base.specs.declared.geometry.Geometry.{Geometry}
-use Rattle.mg_tree_overlays.specs.TreeBatches.{OrdersRoot, OrdersSplit, inventory_of}
+use Rattle.mg_tree_overlay_laws.specs.TreeBatches.{OrdersRoot, OrdersSplit, inventory_of}
 use Rattle.mg_btree.specs.Ordering.{AddsOrders, AreLong, PutsThree, Widens, before, orders_for, orders_to, root_orders, split_orders}
 use Rattle.mg_btree.specs.Rooms.{TakesAlone}
 use Rattle.mg_btree.specs.SplitRows.{with_here, with_other, with_page}

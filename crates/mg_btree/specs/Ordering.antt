@@ -4,7 +4,7 @@ use Rattle.mg_base.specs.declared.numbers.PageNo.{PageNo}
 use Rattle.mg_careful.specs.declared.graph.Order.{Order}
 use Rattle.mg_pool.specs.Batch.{Changed, PutsPage, content_in, lists}
 use Rattle.mg_pool.specs.declared.batch.BatchPage.{BatchPage}
-use Rattle.mg_tree_overlays.specs.TreeBatches.{inventory_of}
+use Rattle.mg_tree_overlay_laws.specs.TreeBatches.{inventory_of}
 
 -- a page is to be written before another
 abbrev pub before : ℕ → ℕ → Order

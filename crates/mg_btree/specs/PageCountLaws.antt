@@ -4,9 +4,9 @@ use Rattle.std.specs.Prelude.{if◌then◌else◌}
 use Rattle.std.proofs.lemmas.Bool.{eqb-true}
 use Rattle.mg_image.specs.Indexes.{first_level}
 use Rattle.mg_image.specs.Tables.{Has, IsOnce}
-use Rattle.mg_tree_overlays.specs.TreeHeightLaws.{length_both}
-use Rattle.mg_tree_overlays.specs.TreePages.{all_of}
-use Rattle.mg_tree_overlays.specs.TreeSteps.{after, grow_levels, split_levels}
+use Rattle.mg_tree_overlay_laws.specs.TreeHeightLaws.{length_both}
+use Rattle.mg_tree_overlay_laws.specs.TreePages.{all_of}
+use Rattle.mg_tree_overlay_laws.specs.TreeSteps.{after, grow_levels, split_levels}
 
 module _ (l r : ℕ) where
   -- a page that is not there is followed by none

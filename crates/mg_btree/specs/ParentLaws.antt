@@ -10,13 +10,13 @@ use Rattle.mg_node.specs.NodePage.{BeginsAsInner, IsAtLeast, IsBelow, IsFirstEnt
 use Rattle.mg_image.specs.Form.{Pages}
 use Rattle.mg_image.specs.Indexes.{AreChildren, AreNodes, HasChildren, HasEntry, IsNode, IsTree, as_fence, first_level}
 use Rattle.mg_image.specs.Tables.{Has}
-use Rattle.mg_tree_overlays.specs.TreeSteps.{InTree}
-use Rattle.mg_tree_overlays.specs.TreesBehind.{Covers, IsFrom}
-use Rattle.mg_tree_overlays.specs.EntryLaws.{number_not_less, then_not_less}
-use Rattle.mg_tree_overlays.specs.StepLaws.{each_has}
-use Rattle.mg_tree_overlays.specs.SplitParts.{level_less}
-use Rattle.mg_tree_overlays.specs.GrowLaws.{AreChains, chains_of}
-use Rattle.mg_tree_overlays.specs.DescentLaws.{not_below_itself, one_page}
+use Rattle.mg_tree_overlay_laws.specs.TreeSteps.{InTree}
+use Rattle.mg_tree_overlay_laws.specs.TreesBehind.{Covers, IsFrom}
+use Rattle.mg_tree_overlay_laws.specs.EntryLaws.{number_not_less, then_not_less}
+use Rattle.mg_tree_overlay_laws.specs.StepLaws.{each_has}
+use Rattle.mg_tree_overlay_laws.specs.SplitParts.{level_less}
+use Rattle.mg_tree_overlay_laws.specs.GrowLaws.{AreChains, chains_of}
+use Rattle.mg_tree_overlay_laws.specs.DescentLaws.{not_below_itself, one_page}
 use Rattle.mg_btree.specs.Halves.{HasPlace}
 
 key_not_less : (key : List ℕ) → slice_cmp nat_cmp key [] ≢ Less

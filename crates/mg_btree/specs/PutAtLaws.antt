@@ -16,7 +16,7 @@ use Rattle.mg_space.specs.View.{KeepsStore, Tells, viewed}
 use Rattle.mg_space.specs.ViewLaws.{tells_on, viewed_on}
 use Rattle.mg_space.specs.declared.fault.SpaceFault.{SpaceFault}
 use Rattle.mg_space.specs.declared.fault.SpaceFault.TheVariants.{Full, Pool as OfPool, Damaged as OfPage}
-use Rattle.mg_tree_overlays.specs.TreeSteps.{InTree}
+use Rattle.mg_tree_overlay_laws.specs.TreeSteps.{InTree}
 use Rattle.mg_btree.specs.declared.halves.PageBytes.{PageBytes}
 use Rattle.mg_btree.specs.declared.inserting.Leaf.{Leaf}
 use Rattle.mg_btree.specs.declared.node.ReadNode.{ReadNode}

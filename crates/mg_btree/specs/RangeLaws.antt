@@ -11,16 +11,16 @@ use Rattle.mg_node.specs.EntryOrderLaws.{entry_cmp_total}
 use Rattle.mg_node.specs.NodePage.{AreAscending, IsAtLeast, IsBelow, entries_of, high_of, level_in, low_of, right_in}
 use Rattle.mg_image.specs.Form.{Pages}
 use Rattle.mg_image.specs.Indexes.{AreNodes, Finds, HasEntry, IsNode, IsTree, first_level}
-use Rattle.mg_tree_overlays.specs.TreeSteps.{InTree}
-use Rattle.mg_tree_overlays.specs.TreesBehind.{IsFrom}
-use Rattle.mg_tree_overlays.specs.EntryLaws.{below_at_least, between_has, number_not_less, then_not_less}
-use Rattle.mg_tree_overlays.specs.StepLaws.{each_has}
-use Rattle.mg_tree_overlays.specs.GrowLaws.{AreChains, chains_of}
-use Rattle.mg_tree_overlays.specs.FoundLaws.{high_left, neighbour, right_on}
-use Rattle.mg_tree_overlays.specs.DescentLaws.{ascends, not_below_itself}
-use Rattle.mg_tree_overlays.specs.KeptLaws.{leaf_found}
-use Rattle.mg_tree_overlays.specs.SearchLaws.{leaf_has_found}
-use Rattle.mg_tree_overlays.specs.LeafLaws.{back_has}
+use Rattle.mg_tree_overlay_laws.specs.TreeSteps.{InTree}
+use Rattle.mg_tree_overlay_laws.specs.TreesBehind.{IsFrom}
+use Rattle.mg_tree_overlay_laws.specs.EntryLaws.{below_at_least, between_has, number_not_less, then_not_less}
+use Rattle.mg_tree_overlay_laws.specs.StepLaws.{each_has}
+use Rattle.mg_tree_overlay_laws.specs.GrowLaws.{AreChains, chains_of}
+use Rattle.mg_tree_overlay_laws.specs.FoundLaws.{high_left, neighbour, right_on}
+use Rattle.mg_tree_overlay_laws.specs.DescentLaws.{ascends, not_below_itself}
+use Rattle.mg_tree_overlay_laws.specs.KeptLaws.{leaf_found}
+use Rattle.mg_tree_overlay_laws.specs.SearchLaws.{leaf_has_found}
+use Rattle.mg_tree_overlay_laws.specs.LeafLaws.{back_has}
 use Rattle.mg_space.specs.declared.fault.SpaceFault.{SpaceFault}
 use Rattle.mg_space.specs.declared.fault.SpaceFault.TheVariants.{Full, Pool as OfPool, Damaged as OfPage}
 use Rattle.mg_btree.specs.declared.node.ReadNode.{ReadNode}

@@ -9,8 +9,8 @@ use Rattle.mg_image.specs.Form.{Pages}
 use Rattle.mg_node.specs.NodeReading.{IsNodeOf}
 use Rattle.mg_image.specs.Indexes.{Finds, HasEntry, IsTree}
 use Rattle.mg_pool.specs.Batch.{Changed}
-use Rattle.mg_tree_overlays.specs.TreeSteps.{InTree}
-use Rattle.mg_tree_overlays.specs.TreesBehind.{IsFrom}
+use Rattle.mg_tree_overlay_laws.specs.TreeSteps.{InTree}
+use Rattle.mg_tree_overlay_laws.specs.TreesBehind.{IsFrom}
 use Rattle.mg_btree.specs.declared.node.ReadNode.{ReadNode}
 use Rattle.mg_btree.specs.declared.range.Look.{Look}
 use Rattle.mg_btree.specs.declared.range.Look.TheVariants.{Ends, GoesOn}

@@ -15,15 +15,15 @@ use Rattle.mg_node_writing.specs.NodeChanges.{KeepsNode}
 use Rattle.mg_node_writing.specs.Splits.{SplitsNode}
 use Rattle.mg_pool.specs.Batch.{Changed, content_in, lists}
 use Rattle.mg_space.specs.Taking.{IsGeometry, TakesPage}
-use Rattle.mg_tree_overlays.specs.TreeSteps.{InTree, split_levels}
-use Rattle.mg_tree_overlays.specs.TreesBehind.{Covers}
-use Rattle.mg_tree_overlays.specs.TreeBatches.{ChangesTree, IsNoInventory, OrdersSplit, Stay, done, inventory_of}
-use Rattle.mg_tree_overlays.specs.GrowParts.{root_in}
-use Rattle.mg_tree_overlays.specs.SplitParts.{tree_back, tree_right, tree_wider}
-use Rattle.mg_tree_overlays.specs.DescentLaws.{ascends, covers_own, last_has}
-use Rattle.mg_tree_overlays.specs.PoolLaws.{pool_changed}
-use Rattle.mg_tree_overlays.specs.TreeOnceLaws.{tree_once}
-use Rattle.mg_tree_overlays.specs.TreePages.{all_of}
+use Rattle.mg_tree_overlay_laws.specs.TreeSteps.{InTree, split_levels}
+use Rattle.mg_tree_overlay_laws.specs.TreesBehind.{Covers}
+use Rattle.mg_tree_overlay_laws.specs.TreeBatches.{ChangesTree, IsNoInventory, OrdersSplit, Stay, done, inventory_of}
+use Rattle.mg_tree_overlay_laws.specs.GrowParts.{root_in}
+use Rattle.mg_tree_overlay_laws.specs.SplitParts.{tree_back, tree_right, tree_wider}
+use Rattle.mg_tree_overlay_laws.specs.DescentLaws.{ascends, covers_own, last_has}
+use Rattle.mg_tree_overlay_laws.specs.PoolLaws.{pool_changed}
+use Rattle.mg_tree_overlay_laws.specs.TreeOnceLaws.{tree_once}
+use Rattle.mg_tree_overlay_laws.specs.TreePages.{all_of}
 use Rattle.mg_btree.specs.PageCountLaws.{split_count}
 use Rattle.mg_btree.specs.declared.halves.Halves.{Halves}
 use Rattle.mg_btree.specs.declared.halves.PageBytes.{PageBytes}

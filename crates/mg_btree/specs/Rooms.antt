@@ -12,9 +12,9 @@ use Rattle.mg_pool.specs.Batch.{Changed, content_in, lists}
 use Rattle.mg_space.specs.Taking.{RefusesTake, TakesPage}
 use Rattle.mg_space.specs.declared.fault.SpaceFault.{SpaceFault}
 use Rattle.mg_space.specs.declared.fault.SpaceFault.TheVariants.{Full, Pool as OfPool, Damaged as OfPage}
-use Rattle.mg_tree_overlays.specs.TreePages.{all_of}
-use Rattle.mg_tree_overlays.specs.TreeSteps.{InTree, StaysUsed}
-use Rattle.mg_tree_overlays.specs.TreeBatches.{ChangesTree, IsNoInventory, Stay, inventory_of}
+use Rattle.mg_tree_overlay_laws.specs.TreePages.{all_of}
+use Rattle.mg_tree_overlay_laws.specs.TreeSteps.{InTree, StaysUsed}
+use Rattle.mg_tree_overlay_laws.specs.TreeBatches.{ChangesTree, IsNoInventory, Stay, inventory_of}
 use Rattle.mg_btree.specs.declared.halves.PageBytes.{PageBytes}
 use Rattle.mg_btree.specs.Changing.{HasNoInventory}
 use Rattle.mg_btree.specs.Ordering.{EachOrder}

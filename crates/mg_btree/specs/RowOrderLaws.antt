@@ -9,9 +9,9 @@ use Rattle.mg_node.specs.NodePage.{entries_of}
 use Rattle.mg_image.specs.Form.{Pages}
 use Rattle.mg_image.specs.Indexes.{HasEntry}
 use Rattle.mg_image.specs.Tables.{Has}
-use Rattle.mg_tree_overlays.specs.TreeSteps.{InTree, StaysUsed, grow_levels, split_levels}
-use Rattle.mg_tree_overlays.specs.TreeBatches.{ChangesTree, EntryChange, IsAdded, Stay, beside, done, grows, inventory_of, leaf, splits}
-use Rattle.mg_tree_overlays.specs.RowLaws.{GrowsBatch}
+use Rattle.mg_tree_overlay_laws.specs.TreeSteps.{InTree, StaysUsed, grow_levels, split_levels}
+use Rattle.mg_tree_overlay_laws.specs.TreeBatches.{ChangesTree, EntryChange, IsAdded, Stay, beside, done, grows, inventory_of, leaf, splits}
+use Rattle.mg_tree_overlay_laws.specs.RowLaws.{GrowsBatch}
 use Rattle.mg_btree.specs.Halves.{HasRoom, names_in}
 use Rattle.mg_btree.specs.Ordering.{root_orders, split_orders}
 use Rattle.mg_btree.specs.RowOrders.{SplitsFull, row_next, row_orders}

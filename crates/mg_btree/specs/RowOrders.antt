@@ -4,8 +4,8 @@ use Rattle.mg_careful.specs.Precedence.{Orders}
 use Rattle.mg_careful.specs.declared.graph.Order.{Order}
 use Rattle.mg_node.specs.declared.entry.Entry.{Entry}
 use Rattle.mg_image.specs.Form.{Pages}
-use Rattle.mg_tree_overlays.specs.TreeSteps.{grow_levels, split_levels}
-use Rattle.mg_tree_overlays.specs.TreeBatches.{ChangesTree, EntryChange, beside, done, grows, leaf, splits}
+use Rattle.mg_tree_overlay_laws.specs.TreeSteps.{grow_levels, split_levels}
+use Rattle.mg_tree_overlay_laws.specs.TreeBatches.{ChangesTree, EntryChange, beside, done, grows, leaf, splits}
 use Rattle.mg_btree.specs.Halves.{HasRoom, names_in}
 use Rattle.mg_btree.specs.Ordering.{root_orders, split_orders}
 

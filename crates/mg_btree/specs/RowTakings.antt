@@ -7,8 +7,8 @@ use Rattle.mg_image.specs.Form.{Pages}
 use Rattle.mg_image.specs.Tables.{Has}
 use Rattle.mg_node.specs.NodePage.{level_in}
 use Rattle.mg_space.specs.Taking.{TakesPage}
-use Rattle.mg_tree_overlays.specs.TreeSteps.{InTree, Rewrites, grow_levels, split_levels}
-use Rattle.mg_tree_overlays.specs.TreeBatches.{ChangesTree, EntryChange, beside, done, grows, inventory_of, leaf, splits}
+use Rattle.mg_tree_overlay_laws.specs.TreeSteps.{InTree, Rewrites, grow_levels, split_levels}
+use Rattle.mg_tree_overlay_laws.specs.TreeBatches.{ChangesTree, EntryChange, beside, done, grows, inventory_of, leaf, splits}
 
 -- By a page n of the page inventory a page is taken, which stands on one of these levels.
 pub record TakesForTree (g : Geometry) (old new : Pages) (n : ℕ) (at_end : List (List ℕ)) : Type 0 where

@@ -18,13 +18,13 @@ use Rattle.mg_image.specs.Tables.{Has, IsOnce, LinkChain, ended, goes}
 use Rattle.mg_pool.specs.Batch.{Changed}
 use Rattle.mg_pool.specs.declared.pool.Pool.{Pool}
 use Rattle.mg_space.specs.View.{KeepsStore, viewed}
-use Rattle.mg_tree_overlays.specs.TreeSteps.{InTree}
-use Rattle.mg_tree_overlays.specs.TreesBehind.{IsFrom}
-use Rattle.mg_tree_overlays.specs.EntryLaws.{child_among, last_exists}
-use Rattle.mg_tree_overlays.specs.StepLaws.{each_has, entries_some, has_some}
-use Rattle.mg_tree_overlays.specs.GrowLaws.{AreChains, chains_of}
-use Rattle.mg_tree_overlays.specs.GrowParts.{root_in}
-use Rattle.mg_tree_overlays.specs.FoundLaws.{high_left, neighbour, right_on}
+use Rattle.mg_tree_overlay_laws.specs.TreeSteps.{InTree}
+use Rattle.mg_tree_overlay_laws.specs.TreesBehind.{IsFrom}
+use Rattle.mg_tree_overlay_laws.specs.EntryLaws.{child_among, last_exists}
+use Rattle.mg_tree_overlay_laws.specs.StepLaws.{each_has, entries_some, has_some}
+use Rattle.mg_tree_overlay_laws.specs.GrowLaws.{AreChains, chains_of}
+use Rattle.mg_tree_overlay_laws.specs.GrowParts.{root_in}
+use Rattle.mg_tree_overlay_laws.specs.FoundLaws.{high_left, neighbour, right_on}
 use Rattle.mg_btree.specs.Reading.{IsNodeOn}
 use Rattle.mg_btree.specs.Searching.{BeginsAt, IsShort, by_order, child_to}
 

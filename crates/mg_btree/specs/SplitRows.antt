@@ -16,12 +16,12 @@ use Rattle.mg_node_writing.specs.ChangePromises.{InsertsBehindFirst}
 use Rattle.mg_node_writing.specs.NewNodes.{CopiesNode}
 use Rattle.mg_node_writing.specs.NodeChanges.{KeepsNode}
 use Rattle.mg_node_writing.specs.Splits.{SplitsNode}
-use Rattle.mg_tree_overlays.specs.TreeSteps.{InTree, StaysUsed, grow_levels, split_levels}
-use Rattle.mg_tree_overlays.specs.TreesBehind.{Covers}
-use Rattle.mg_tree_overlays.specs.TreeBatches.{EntryChange, IsNoInventory, OrdersRoot, OrdersSplit, done, grows, splits}
-use Rattle.mg_tree_overlays.specs.GrowParts.{root_in}
-use Rattle.mg_tree_overlays.specs.PoolLaws.{beside_tree}
-use Rattle.mg_tree_overlays.specs.SearchLaws.{covers_parent}
+use Rattle.mg_tree_overlay_laws.specs.TreeSteps.{InTree, StaysUsed, grow_levels, split_levels}
+use Rattle.mg_tree_overlay_laws.specs.TreesBehind.{Covers}
+use Rattle.mg_tree_overlay_laws.specs.TreeBatches.{EntryChange, IsNoInventory, OrdersRoot, OrdersSplit, done, grows, splits}
+use Rattle.mg_tree_overlay_laws.specs.GrowParts.{root_in}
+use Rattle.mg_tree_overlay_laws.specs.PoolLaws.{beside_tree}
+use Rattle.mg_tree_overlay_laws.specs.SearchLaws.{covers_parent}
 use Rattle.mg_btree.specs.ChangeLaws.{used_stays}
 use Rattle.mg_btree.specs.Halves.{HasRoom, names_in}
 use Rattle.mg_btree.specs.Ordering.{root_orders, split_orders}

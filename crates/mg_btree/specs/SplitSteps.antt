@@ -18,8 +18,8 @@ use Rattle.mg_node_writing.specs.ChangePromises.{InsertsBehindFirst}
 use Rattle.mg_node_writing.specs.NewNodes.{CopiesNode}
 use Rattle.mg_node_writing.specs.NodeChanges.{KeepsNode}
 use Rattle.mg_node_writing.specs.Splits.{SplitsNode}
-use Rattle.mg_tree_overlays.specs.TreeSteps.{Grows, Names, Rewrites, Splits}
-use Rattle.mg_tree_overlays.specs.TreeBatches.{IsNoInventory}
+use Rattle.mg_tree_overlay_laws.specs.TreeSteps.{Grows, Names, Rewrites, Splits}
+use Rattle.mg_tree_overlay_laws.specs.TreeBatches.{IsNoInventory}
 use Rattle.mg_btree.specs.ChangeLaws.{same_fields, used_stays}
 
 -- the own number of a page that passes

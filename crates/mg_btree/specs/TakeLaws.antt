@@ -11,10 +11,10 @@ use Rattle.mg_image.specs.Inventory.{is_used}
 use Rattle.mg_pip.specs.PipPage.{bits}
 use Rattle.mg_space.specs.Taking.{IsGeometry, TakesPage}
 use Rattle.mg_space.specs.TakingLaws.{takes_bit, takes_keeps}
-use Rattle.mg_tree_overlays.specs.TreeSteps.{InTree, StaysUsed, grow_levels, split_levels}
-use Rattle.mg_tree_overlays.specs.TreeBatches.{ChangesTree, EntryChange, IsNoInventory, beside, done, grows, inventory_of, leaf, splits}
-use Rattle.mg_tree_overlays.specs.GrowParts.{unused_fresh}
-use Rattle.mg_tree_overlays.specs.PoolLaws.{beside_tree}
+use Rattle.mg_tree_overlay_laws.specs.TreeSteps.{InTree, StaysUsed, grow_levels, split_levels}
+use Rattle.mg_tree_overlay_laws.specs.TreeBatches.{ChangesTree, EntryChange, IsNoInventory, beside, done, grows, inventory_of, leaf, splits}
+use Rattle.mg_tree_overlay_laws.specs.GrowParts.{unused_fresh}
+use Rattle.mg_tree_overlay_laws.specs.PoolLaws.{beside_tree}
 use Rattle.mg_btree.specs.Changing.{HasNoInventory}
 use Rattle.mg_btree.specs.RowOrderLaws.{RoomRow, takes_room}
 

@@ -11,7 +11,7 @@ use Rattle.mg_space.specs.Taking.{PutsInventory, RefusesTake, TakesPage}
 use Rattle.mg_space.specs.View.{KeepsStore, viewed}
 use Rattle.mg_space.specs.ViewLaws.{viewed_on}
 use Rattle.mg_space.specs.declared.fault.SpaceFault.{SpaceFault}
-use Rattle.mg_tree_overlays.specs.TreeBatches.{inventory_of}
+use Rattle.mg_tree_overlay_laws.specs.TreeBatches.{inventory_of}
 use Rattle.mg_btree.specs.declared.growing.TwoPages.{TwoPages}
 use Rattle.mg_btree.specs.Growing.{TakesTwo}
 use Rattle.mg_btree.specs.OrderLaws.{taken_put, widens_taken}

@@ -8,7 +8,7 @@
 //! `range_step` gives the least of them in a range, `walk_from` and `walk_on` give one after another
 //! (the leaf is kept, and after it only right neighbours are read), `insert` adds one, `remove` takes one out and tells
 //! whether it was there. What a call does to a tree it tells as a row of steps of the pool's own pages
-//! (`ChangesTree` of mg_tree_overlays), from which follows what it does to every image that a crash may
+//! (`ChangesTree` of mg_tree_overlay_laws), from which follows what it does to every image that a crash may
 //! leave.
 //!
 //! A page is taken only where one splits, and a page splits only where the entry that it is to have
@@ -21,7 +21,7 @@
 //!
 //! Invariant: none, it keeps no state.
 //! Below: `mg_space`, for pages and batches; `mg_node` and `mg_node_writing`, for single pages;
-//! `mg_tree_overlays`, the laws. Above: the engine, which has a tree for each index.
+//! `mg_tree_overlay_laws`, the laws. Above: the engine, which has a tree for each index.
 //! Not here: which table an index belongs to, and how a key is spelled in bytes.
 #![tactic(auto)]
 

@@ -4,8 +4,8 @@ use Rattle.std.proofs.Common.{sym, ◌∙◌, ap}
 use Rattle.std.proofs.lemmas.Bool.{false≢true, both_ways, ne_eqb}
 use Rattle.mg_base.specs.declared.transaction.TxState.{TxState}
 use Rattle.mg_base.specs.declared.transaction.TxState.TheVariants.{Active, Limbo, Dead, Committed}
-use Rattle.mg_generations.specs.Generations.{generation, shown_by, sees as sees_told}
-use Rattle.mg_generations.specs.Laws.{VersionsShowViews}
+use Rattle.mg_generation_laws.specs.Generations.{generation, shown_by, sees as sees_told}
+use Rattle.mg_generation_laws.specs.Laws.{VersionsShowViews}
 use Rattle.mg_image.specs.Records.{shown, writer}
 use Rattle.mg_image.specs.declared.entry.Entry.{Entry}
 use Rattle.mg_model.specs.Answers.{is_committed, is_open, told}

@@ -3,7 +3,7 @@ use Rattle.std.specs.Prelude.{◌≡◌, ℕ, ◌&&◌, Bool, true, false, List,
 use Rattle.mg_base.specs.declared.transaction.TxState.{TxState}
 use Rattle.mg_base.specs.declared.transaction.TxState.TheVariants.{Active, Limbo, Dead, Committed}
 use Rattle.mg_value.specs.declared.value.Value.{Value}
-use Rattle.mg_generations.specs.Generations.{Generation, AreGenerations, generation}
+use Rattle.mg_generation_laws.specs.Generations.{Generation, AreGenerations, generation}
 use Rattle.mg_image.specs.Records.{shown, writer}
 use Rattle.mg_image.specs.declared.entry.Entry.{Entry}
 use Rattle.mg_model.specs.Answers.{is_committed, is_open, told}

@@ -4,7 +4,7 @@ ghost use Rattle.mg_chain.specs.Bases.{LiveBegins, LiveFollows};
 ghost use Rattle.mg_chain.specs.Lists.{FreesSlot, MakesLists, MovesLists, OverwritesLists, PushesLists, PutsSpelled, TakesOutLists};
 ghost use Rattle.mg_chain.specs.Views.{FoundIsShown, SeesItsView};
 
-use mg_generations::versions_show;
+use mg_generation_laws::versions_show;
 
 /// Where the versions of a record are those that a history says of a key, the one that a transaction
 /// sees gives the row that its view has at the key.

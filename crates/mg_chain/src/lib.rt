@@ -13,7 +13,7 @@
 //!
 //! Invariant: none of its own, it keeps no state.
 //! Below: `mg_heap` for cells by their places, `mg_version` for what a cell spells, `mg_snap` for
-//! what a base sees, and `mg_generations` for the laws. Above: the engine and the collection of garbage.
+//! what a base sees, and `mg_generation_laws` for the laws. Above: the engine and the collection of garbage.
 //! Not here: the walk along a chain (`mg_seek`); what becomes of a transaction, which a caller tells by
 //! `States`; when a batch is changed; and which versions behind others may go.
 #![tactic(auto)]

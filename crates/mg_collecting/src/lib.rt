@@ -14,7 +14,7 @@
 //! Invariant: none, it keeps no state.
 //! Below: `mg_chain` for a record's versions, `mg_snap` for what bases need, `mg_row_writes` for a batch of its own. Above:
 //! the engine, which collects what its readers come to.
-//! Not here: which records, entries of indexes, and what comes of histories and crashes (`mg_collect_ties`).
+//! Not here: which records, entries of indexes, and what comes of histories and crashes (`mg_collect_tie_laws`).
 #![tactic(auto)]
 
 mod collecting;

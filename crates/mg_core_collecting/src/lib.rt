@@ -13,7 +13,7 @@
 //! Below: `mg_collecting`, for what goes of a record; `mg_core`, for the core; `mg_seek` and `mg_catalog`, for the tables
 //! and their records. Above: the engine, which
 //! collects records.
-//! Not here: histories, and what crashes leave (`mg_engine_collecting`).
+//! Not here: histories, and what crashes leave (`mg_engine_collecting_laws`).
 #![tactic(auto)]
 
 mod collecting;

@@ -30,9 +30,9 @@ use Rattle.mg_exec.specs.Progress.{Advances, IsOneDeed, Nears, still_at}
 use Rattle.mg_exec.specs.Running.{Goes, is_rolled_back_at}
 use Rattle.mg_exec.specs.Starting.{Runs, TestsAny, refusal_at}
 use Rattle.mg_exec.specs.Statements.{Asked, BeginsTested, IsAt}
-use Rattle.mg_exec_courses.specs.Courses.{IsAtCourse, IsCourse, IsOutsideFault, IsTurnedSo}
-use Rattle.mg_exec_courses.specs.StepLaws.{steps_tell}
-use Rattle.mg_exec_courses.specs.TestLaws.{tests_tell}
+use Rattle.mg_exec_course_laws.specs.Courses.{IsAtCourse, IsCourse, IsOutsideFault, IsTurnedSo}
+use Rattle.mg_exec_course_laws.specs.StepLaws.{steps_tell}
+use Rattle.mg_exec_course_laws.specs.TestLaws.{tests_tell}
 use Rattle.mg_courses.specs.declared.statements.Stepped.{Stepped}
 use Rattle.mg_courses.specs.declared.statements.Stepped.TheVariants.{Waits}
 use Rattle.mg_courses.specs.AnyRuns.{HasLeft, IsGoing, any_runs, ended_at, stepped_at}

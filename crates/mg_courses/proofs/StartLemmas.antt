@@ -20,7 +20,7 @@ use Rattle.mg_transcript.specs.Statements.{looks, fault_seen}
 use Rattle.mg_transcript.specs.Steps.{Starts, fails_test, tests_not, passes, refused}
 use Rattle.mg_courses.specs.declared.starting.Started.{Started}
 use Rattle.mg_courses.specs.declared.starting.Started.TheVariants as started
-use Rattle.mg_exec_courses.specs.Courses.{IsOutsideFault}
+use Rattle.mg_exec_course_laws.specs.Courses.{IsOutsideFault}
 use Rattle.mg_courses.specs.Running.{RunMeans, fault_if_looks}
 use Rattle.mg_courses.specs.Working.{StartDone, BeginDone}
 use Rattle.mg_courses.specs.Carrying.{Carries}

@@ -17,7 +17,7 @@ use Rattle.mg_exec.specs.declared.run.Run.{Run as RunOf}
 use Rattle.mg_exec.specs.Phases.{IsReady}
 use Rattle.mg_exec.specs.Progress.{still_at}
 use Rattle.mg_exec.specs.Running.{place_at, table_at}
-use Rattle.mg_exec_courses.specs.Courses.{IsCourse}
+use Rattle.mg_exec_course_laws.specs.Courses.{IsCourse}
 use Rattle.mg_transcript.specs.Courses.{Course}
 use Rattle.mg_courses.specs.AnyRuns.{any_runs}
 use Rattle.mg_courses.specs.Aside.{IsBegun, StopsSo, VisitedIsCollected}

@@ -21,7 +21,7 @@ use Rattle.mg_exec.specs.declared.phase.NewTable.{NewTable}
 use Rattle.mg_exec.specs.declared.phase.Phase.{Phase}
 use Rattle.mg_exec.specs.declared.phase.Phase.TheVariants as phases
 use Rattle.mg_exec.specs.Phases.{IsReady, IsReadyToCreate, StandsAt}
-use Rattle.mg_exec_courses.specs.Courses.{IsCourse}
+use Rattle.mg_exec_course_laws.specs.Courses.{IsCourse}
 use Rattle.mg_courses.specs.AnyRuns.{any_runs}
 use Rattle.mg_courses.specs.Carrying.{RunsAreQuiet, are_quiet, is_quiet}
 use Rattle.mg_courses.specs.QuietLaws.{makings_quiet}

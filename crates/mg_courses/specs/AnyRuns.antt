@@ -18,7 +18,7 @@ use Rattle.mg_exec.specs.declared.run.Run.{Run}
 use Rattle.mg_exec.specs.Phases.{IsReady, StandsAt, is_over}
 use Rattle.mg_exec.specs.Progress.{still_at}
 use Rattle.mg_exec.specs.Running.{is_rolled_back_at}
-use Rattle.mg_exec_courses.specs.Courses.{IsCourse}
+use Rattle.mg_exec_course_laws.specs.Courses.{IsCourse}
 use Rattle.mg_courses.specs.declared.statements.Stepped.{Stepped}
 use Rattle.mg_courses.specs.declared.statements.Stepped.TheVariants.{More, Waits, Ended}
 use Rattle.mg_courses.specs.Running.{RunMeans}

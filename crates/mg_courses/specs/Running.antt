@@ -20,7 +20,7 @@ use Rattle.mg_script.specs.declared.reply.Reply.TheVariants as replies
 use Rattle.mg_transcript.specs.Courses.{Course, Begun, Comes, Later, Parks, Ends}
 use Rattle.mg_transcript.specs.Statements.{looks, table_of, fault_of}
 use Rattle.mg_transcript.specs.Steps.{Steps}
-use Rattle.mg_exec_courses.specs.Courses.{IsOutsideFault}
+use Rattle.mg_exec_course_laws.specs.Courses.{IsOutsideFault}
 use Rattle.mg_courses.specs.declared.statements.Stepped.{Stepped}
 use Rattle.mg_courses.specs.declared.statements.Stepped.TheVariants.{More, Waits, Ended}
 

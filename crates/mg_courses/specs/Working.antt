@@ -19,7 +19,7 @@ use Rattle.mg_courses.specs.declared.statements.Stepped.{Stepped}
 use Rattle.mg_courses.specs.declared.statements.Stepped.TheVariants.{More, Waits, Ended}
 use Rattle.mg_courses.specs.declared.work.Work.{Work}
 use Rattle.mg_courses.specs.declared.work.Work.TheVariants as works
-use Rattle.mg_exec_courses.specs.Courses.{IsOutsideFault}
+use Rattle.mg_exec_course_laws.specs.Courses.{IsOutsideFault}
 use Rattle.mg_courses.specs.Running.{RunMeans, goes_on, refusal_answered, fault_if_looks}
 use Rattle.mg_courses.specs.Carrying.{Carries}
 

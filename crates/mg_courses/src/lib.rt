@@ -13,7 +13,7 @@
 //! that (`BesideLaws`). No crash loses what was durable before (`specs/Carrying`).
 //!
 //! Invariant: none, it keeps no state.
-//! Below: `mg_exec`, `mg_exec_courses`, `mg_calls`, `mg_transcript`. Above: sessions.
+//! Below: `mg_exec`, `mg_exec_course_laws`, `mg_calls`, `mg_transcript`. Above: sessions.
 //! Not here: which statement a session runs, and what is printed.
 #![tactic(auto)]
 

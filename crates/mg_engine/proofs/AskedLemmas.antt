@@ -2,8 +2,8 @@
 use Rattle.std.proofs.Common.{◌≡◌, Option, None, Some, OnOk, Result, subst}
 use Rattle.mg_base.specs.Disk.{Meaning}
 use Rattle.mg_core.specs.declared.parts.Core.{Core}
-use Rattle.mg_engine_changes.specs.faults.Asked.{AsksNoWrite, AsksOneWrite}
-use Rattle.mg_engine_meaning.specs.Meaning.{Places, means_with_room}
+use Rattle.mg_engine_change_laws.specs.faults.Asked.{AsksNoWrite, AsksOneWrite}
+use Rattle.mg_engine_meaning_laws.specs.Meaning.{Places, means_with_room}
 use Rattle.mg_model.specs.declared.refusal.Refusal.{Refusal}
 use Rattle.mg_model.specs.declared.refusal.Refusal.TheVariants as refusals
 use Rattle.mg_records.specs.Asking.{TakesNoPage, TakesNothing, WritesNoPage, WritesOnePage}

@@ -4,9 +4,9 @@ use Rattle.mg_base.specs.Disk.{Meaning}
 use Rattle.mg_base.specs.declared.numbers.TxNo.{TxNo}
 use Rattle.mg_core.specs.declared.parts.Core.{Core}
 use Rattle.mg_model.specs.declared.refusal.Refusal.{Refusal}
-use Rattle.mg_engine_changes.specs.memory.Notes.{AreCounts}
-use Rattle.mg_engine_changes.specs.backs.Outcomes.{IsBack, IsUndone}
-use Rattle.mg_engine_meaning.specs.Meaning.{Places}
+use Rattle.mg_engine_change_laws.specs.memory.Notes.{AreCounts}
+use Rattle.mg_engine_change_laws.specs.backs.Outcomes.{IsBack, IsUndone}
+use Rattle.mg_engine_meaning_laws.specs.Meaning.{Places}
 
 pub counted : {D : Type 0} (core : Core D) → core.damage < 2 ^ 64 → core.shortages < 2 ^ 64 → AreCounts core
 counted core damage shortages = record { damage = omega (arith, damage); shortages = omega (arith, shortages) }

@@ -17,12 +17,12 @@ use Rattle.mg_core.specs.declared.parts.Core.{Core}
 use Rattle.mg_core.specs.Beginning.{BeginsFor, FailsBegin}
 use Rattle.mg_core.specs.Committing.{WritesPage}
 use Rattle.mg_core.specs.Cores.{IsCore}
-use Rattle.mg_engine_meaning.specs.Begins.{BeginsGive}
-use Rattle.mg_engine_meaning.specs.Counts.{HasCounts}
-use Rattle.mg_engine_meaning.specs.NewWorks.{next_none}
-use Rattle.mg_engine_meaning.specs.NextPages.{NextPagesGoOn, WritesPages}
-use Rattle.mg_engine_meaning.specs.Frames.{GivesEvent}
-use Rattle.mg_engine_meaning.specs.Meaning.{Places, WorksFor}
+use Rattle.mg_engine_meaning_laws.specs.Begins.{BeginsGive}
+use Rattle.mg_engine_meaning_laws.specs.Counts.{HasCounts}
+use Rattle.mg_engine_meaning_laws.specs.NewWorks.{next_none}
+use Rattle.mg_engine_meaning_laws.specs.NextPages.{NextPagesGoOn, WritesPages}
+use Rattle.mg_engine_meaning_laws.specs.Frames.{GivesEvent}
+use Rattle.mg_engine_meaning_laws.specs.Meaning.{Places, WorksFor}
 use Rattle.mg_engine.specs.Engines.{IsEngine}
 
 -- ---- each session has one active transaction at most

@@ -5,17 +5,17 @@ use Rattle.mg_base.specs.Image.{Image}
 use Rattle.mg_core.specs.declared.parts.Core.{Core}
 use Rattle.mg_core.specs.declared.scanning.Place.{Place}
 use Rattle.mg_engine.specs.Noting.{OnlyLooks}
-use Rattle.mg_engine_changes.specs.faults.Told.{TellsFaults}
-use Rattle.mg_engine_meaning.specs.Frames.{GivesEvent}
-use Rattle.mg_engine_meaning.specs.FreePages.{CoreHasFree}
-use Rattle.mg_engine_meaning.specs.Meaning.{Places, means}
+use Rattle.mg_engine_change_laws.specs.faults.Told.{TellsFaults}
+use Rattle.mg_engine_meaning_laws.specs.Frames.{GivesEvent}
+use Rattle.mg_engine_meaning_laws.specs.FreePages.{CoreHasFree}
+use Rattle.mg_engine_meaning_laws.specs.Meaning.{Places, means}
 use Rattle.mg_model.specs.declared.answer.Answer.{Answer}
 use Rattle.mg_model.specs.declared.event.Event.{Event}
 use Rattle.mg_model.specs.declared.refusal.Refusal.{Refusal}
 use Rattle.mg_model.specs.declared.refusal.Refusal.TheVariants.{DatabaseFull, DiskRead, DiskWrite, Offline, Damaged}
 use Rattle.mg_model.specs.Legal.{durable_count}
-use Rattle.mg_no_damage.specs.FewPages.{CoreTakes, RoomStands}
-use Rattle.mg_no_damage.specs.Stands.{DamageStands}
+use Rattle.mg_no_damage_laws.specs.FewPages.{CoreTakes, RoomStands}
+use Rattle.mg_no_damage_laws.specs.Stands.{DamageStands}
 use Rattle.mg_records.specs.Crashing.{LeavesOnly, LeavesQuietly}
 use Rattle.mg_records.specs.Keeping.{Causes, CommitsStay, Elapses, IsOffline, Keeps, Leaves, Reads, TablesStay, WalksStay, down_after}
 use Rattle.mg_records.specs.Meaning.{Means}

@@ -13,23 +13,23 @@ use Rattle.mg_engine.proofs.UnreadLemmas.{unread_looks}
 use Rattle.mg_engine.specs.Changing.{ChangesGoOn, GivesWrite, WritesFirst}
 use Rattle.mg_engine.specs.Keyed.{NotesGoOn}
 use Rattle.mg_engine.specs.Noting.{HasNoted, NotesKeys, OnlyLooks}
-use Rattle.mg_engine_changes.specs.memory.Notes.{AreCounts}
-use Rattle.mg_engine_changes.specs.rows.Refusals.{RefusesStill}
-use Rattle.mg_engine_changes.specs.rows.Steps.{NotedFailsApart, NotedFailsGive, NotedWritesApart, NotedWritesGive}
-use Rattle.mg_engine_changes.specs.faults.Told.{WritesTell, disk_count}
-use Rattle.mg_engine_changes.specs.rows.Unread.{LeavesUnread, UnreadWritesGive}
-use Rattle.mg_engine_meaning.specs.Counts.{HasCounts}
-use Rattle.mg_engine_meaning.specs.Frames.{GivesEvent}
-use Rattle.mg_engine_meaning.specs.Meaning.{Places}
-use Rattle.mg_engine_meaning.specs.Steps.{ReadsGoOn}
+use Rattle.mg_engine_change_laws.specs.memory.Notes.{AreCounts}
+use Rattle.mg_engine_change_laws.specs.rows.Refusals.{RefusesStill}
+use Rattle.mg_engine_change_laws.specs.rows.Steps.{NotedFailsApart, NotedFailsGive, NotedWritesApart, NotedWritesGive}
+use Rattle.mg_engine_change_laws.specs.faults.Told.{WritesTell, disk_count}
+use Rattle.mg_engine_change_laws.specs.rows.Unread.{LeavesUnread, UnreadWritesGive}
+use Rattle.mg_engine_meaning_laws.specs.Counts.{HasCounts}
+use Rattle.mg_engine_meaning_laws.specs.Frames.{GivesEvent}
+use Rattle.mg_engine_meaning_laws.specs.Meaning.{Places}
+use Rattle.mg_engine_meaning_laws.specs.Steps.{ReadsGoOn}
 use Rattle.mg_model.specs.declared.refusal.Refusal.{Refusal}
 use Rattle.mg_model.specs.declared.table.Table.{Table}
-use Rattle.mg_no_damage.specs.Calls.{WritesMeetNone}
-use Rattle.mg_no_damage.specs.CoreReads.{KeysAreNoted}
-use Rattle.mg_no_damage.specs.FewPages.{CoreTakes}
-use Rattle.mg_no_damage.specs.FewPagesCalls.{WritesTakeFew}
-use Rattle.mg_no_damage.specs.FewPagesLaws.{room_up}
-use Rattle.mg_no_damage.specs.Sound.{SoundRecordsAreLawful, SoundTablesStand}
+use Rattle.mg_no_damage_laws.specs.Calls.{WritesMeetNone}
+use Rattle.mg_no_damage_laws.specs.CoreReads.{KeysAreNoted}
+use Rattle.mg_no_damage_laws.specs.FewPages.{CoreTakes}
+use Rattle.mg_no_damage_laws.specs.FewPagesCalls.{WritesTakeFew}
+use Rattle.mg_no_damage_laws.specs.FewPagesLaws.{room_up}
+use Rattle.mg_no_damage_laws.specs.Sound.{SoundRecordsAreLawful, SoundTablesStand}
 use Rattle.mg_records.specs.Adding.{fine_or}
 use Rattle.mg_records.specs.Keeping.{refusal_in}
 use Rattle.mg_records.specs.Room.{pages_of_row}

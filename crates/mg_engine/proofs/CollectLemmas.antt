@@ -4,16 +4,16 @@ use Rattle.std.specs.Prelude.{IfOk}
 use Rattle.mg_base.specs.Disk.{Meaning}
 use Rattle.mg_base.specs.declared.numbers.RecId.{RecId}
 use Rattle.mg_base.specs.declared.numbers.TxNo.{TxNo}
-use Rattle.mg_collecting_damage.specs.Undamaged.{CollectionsMissNone}
+use Rattle.mg_collecting_damage_laws.specs.Undamaged.{CollectionsMissNone}
 use Rattle.mg_core.specs.declared.parts.Core.{Core}
 use Rattle.mg_core.specs.declared.scanning.Place.{Place}
 use Rattle.mg_core_collecting.specs.Places.{CollectsPlace}
 use Rattle.mg_engine.specs.Engines.{IsEngine}
 use Rattle.mg_engine.specs.Places.{places}
-use Rattle.mg_engine_collecting.specs.PlaceLeaves.{CollectionsLeave}
-use Rattle.mg_engine_collecting.specs.PlaceStays.{CollectionsAreNobodys, IsNobodysEvent}
-use Rattle.mg_engine_collecting.specs.Versions.{collecting}
-use Rattle.mg_engine_meaning.specs.Meaning.{means, means_with_room}
+use Rattle.mg_engine_collecting_laws.specs.PlaceLeaves.{CollectionsLeave}
+use Rattle.mg_engine_collecting_laws.specs.PlaceStays.{CollectionsAreNobodys, IsNobodysEvent}
+use Rattle.mg_engine_collecting_laws.specs.Versions.{collecting}
+use Rattle.mg_engine_meaning_laws.specs.Meaning.{means, means_with_room}
 use Rattle.mg_model.specs.History.{Entries}
 use Rattle.mg_model.specs.declared.opening.Opening.{Opening}
 use Rattle.mg_model.specs.declared.refusal.Refusal.{Refusal}

@@ -16,13 +16,13 @@ use Rattle.mg_core.specs.Committing.{AsksCommit, StepsCommit}
 use Rattle.mg_core.specs.Cores.{Continues, RefusesCall}
 use Rattle.mg_core.specs.Ending.{Commits, RefusesCommit}
 use Rattle.mg_core.specs.Events.{EndsWait, IsRefused, Looks, RollsBack, SetsPoint}
-use Rattle.mg_engine_meaning.specs.Looks.{LooksGoOn}
-use Rattle.mg_engine_meaning.specs.Frames.{GivesEvent}
-use Rattle.mg_engine_meaning.specs.Laws.{FoundGoesOn, GoesOnOr, MarksGoOn, SavepointsGoOn, TellsFound}
-use Rattle.mg_engine_meaning.specs.Ends.{CommitsGo, GivesDurable, RollbacksGo}
-use Rattle.mg_engine_meaning.specs.Meaning.{HasWrittenAll, Places, means}
-use Rattle.mg_engine_meaning.specs.Standings.{asked_in}
-use Rattle.mg_engine_meaning.specs.Steps.{AddsNone, AsksGoOn, StepsGoOn}
+use Rattle.mg_engine_meaning_laws.specs.Looks.{LooksGoOn}
+use Rattle.mg_engine_meaning_laws.specs.Frames.{GivesEvent}
+use Rattle.mg_engine_meaning_laws.specs.Laws.{FoundGoesOn, GoesOnOr, MarksGoOn, SavepointsGoOn, TellsFound}
+use Rattle.mg_engine_meaning_laws.specs.Ends.{CommitsGo, GivesDurable, RollbacksGo}
+use Rattle.mg_engine_meaning_laws.specs.Meaning.{HasWrittenAll, Places, means}
+use Rattle.mg_engine_meaning_laws.specs.Standings.{asked_in}
+use Rattle.mg_engine_meaning_laws.specs.Steps.{AddsNone, AsksGoOn, StepsGoOn}
 use Rattle.mg_engine.specs.Engines.{IsEngine}
 
 module _ {D P : Type 0} (m : Meaning D) (places : Places P) (inside old new : Core D) (same : inside ≡ old)

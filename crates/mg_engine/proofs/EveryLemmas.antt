@@ -2,17 +2,17 @@
 use Rattle.std.proofs.Common.{◌≡◌, ◌<◌, ◌^◌, Result, Ok, Err, ap, inl, inr, subst, sym}
 use Rattle.std.specs.Prelude.{OnOk}
 use Rattle.mg_base.specs.Disk.{Meaning}
-use Rattle.mg_collecting_damage.specs.Undamaged.{EveryMissesNone}
+use Rattle.mg_collecting_damage_laws.specs.Undamaged.{EveryMissesNone}
 use Rattle.mg_core.specs.declared.parts.Core.{Core}
 use Rattle.mg_core.specs.declared.scanning.Place.{Place}
 use Rattle.mg_core_collecting.specs.Every.{CollectsEvery}
 use Rattle.mg_engine.specs.Engines.{IsEngine}
 use Rattle.mg_engine.specs.Places.{places}
-use Rattle.mg_engine_collecting.specs.EveryLeaves.{EveryLeaves}
-use Rattle.mg_engine_collecting.specs.EverySo.{EveryIsNobodys}
-use Rattle.mg_engine_collecting.specs.PlaceStays.{IsNobodysEvent}
-use Rattle.mg_engine_collecting.specs.Versions.{collecting}
-use Rattle.mg_engine_meaning.specs.Meaning.{means, means_with_room}
+use Rattle.mg_engine_collecting_laws.specs.EveryLeaves.{EveryLeaves}
+use Rattle.mg_engine_collecting_laws.specs.EverySo.{EveryIsNobodys}
+use Rattle.mg_engine_collecting_laws.specs.PlaceStays.{IsNobodysEvent}
+use Rattle.mg_engine_collecting_laws.specs.Versions.{collecting}
+use Rattle.mg_engine_meaning_laws.specs.Meaning.{means, means_with_room}
 use Rattle.mg_model.specs.History.{Entries}
 use Rattle.mg_model.specs.declared.opening.Opening.{Opening}
 use Rattle.mg_model.specs.declared.refusal.Refusal.{Refusal}

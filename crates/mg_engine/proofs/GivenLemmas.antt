@@ -7,11 +7,11 @@ use Rattle.mg_base.specs.declared.transaction.TxState.TheVariants.{Active}
 use Rattle.mg_core.specs.Cores.{Continues}
 use Rattle.mg_core.specs.declared.parts.Core.{Core}
 use Rattle.mg_core.specs.declared.scanning.Place.{Place}
-use Rattle.mg_engine_changes.specs.keys.WrittenLaws.{first_named}
-use Rattle.mg_engine_meaning.specs.LawfulLaws.{memory_of, tables_are_seen}
-use Rattle.mg_engine_meaning.specs.Meaning.{Places}
-use Rattle.mg_engine_meaning.specs.Standings.{ShowsIt, StandsFor, standing_of}
-use Rattle.mg_engine_steps.specs.standing.Known.{IsShown, seen_is_shown}
+use Rattle.mg_engine_change_laws.specs.keys.WrittenLaws.{first_named}
+use Rattle.mg_engine_meaning_laws.specs.LawfulLaws.{memory_of, tables_are_seen}
+use Rattle.mg_engine_meaning_laws.specs.Meaning.{Places}
+use Rattle.mg_engine_meaning_laws.specs.Standings.{ShowsIt, StandsFor, standing_of}
+use Rattle.mg_engine_step_laws.specs.standing.Known.{IsShown, seen_is_shown}
 use Rattle.mg_model.specs.Answers.{catalog_of, told}
 use Rattle.mg_model.specs.Catalog.{catalog_name, shape_said, table_key}
 use Rattle.mg_model.specs.Changes.{same_name}

@@ -5,8 +5,8 @@ use Rattle.mg_base.specs.Disk.{Meaning}
 use Rattle.mg_base.specs.Image.{Image}
 use Rattle.mg_base.specs.declared.numbers.RecId.{RecId}
 use Rattle.mg_base.specs.declared.numbers.TxNo.{TxNo}
-use Rattle.mg_collecting_damage.specs.Undamaged.{CollectionsMeetNone, CollectionsMissNone}
-use Rattle.mg_collecting_room.specs.Room.{CollectionsTakeNone}
+use Rattle.mg_collecting_damage_laws.specs.Undamaged.{CollectionsMeetNone, CollectionsMissNone}
+use Rattle.mg_collecting_room_laws.specs.Room.{CollectionsTakeNone}
 use Rattle.mg_core.specs.Cores.{Continues, IsCore, RefusesCall}
 use Rattle.mg_core.specs.Reading.{OnlyReads}
 use Rattle.mg_core.specs.Writing.{KnowsKey, WhyOfKnown}
@@ -20,16 +20,16 @@ use Rattle.mg_engine.specs.KeyCollecting.{CollectsAtKey, CollectsBeside, Collect
 use Rattle.mg_engine.specs.Keyed.{FailsKey, GivesRow, KeysGoOn}
 use Rattle.mg_engine.specs.Noting.{OnlyLooks}
 use Rattle.mg_engine.specs.Places.{places}
-use Rattle.mg_engine_changes.specs.rows.StopLaws.{fault_outer}
-use Rattle.mg_engine_collecting.specs.PlaceLeaves.{CollectionsLeave}
-use Rattle.mg_engine_collecting.specs.PlaceStays.{CollectionsAreNobodys, IsNobodysEvent}
-use Rattle.mg_engine_collecting.specs.PlaceTells.{CollectionsTell}
-use Rattle.mg_engine_collecting.specs.Versions.{HasKept, collecting}
-use Rattle.mg_engine_meaning.specs.Counts.{HasCounts}
-use Rattle.mg_engine_meaning.specs.DirectoryLaws.{knows_key}
-use Rattle.mg_engine_meaning.specs.Meaning.{means, means_with_room}
-use Rattle.mg_engine_meaning.specs.Standings.{ShowsIt, StandsFor, standing_of}
-use Rattle.mg_engine_meaning.specs.StepLaws.{shows_of}
+use Rattle.mg_engine_change_laws.specs.rows.StopLaws.{fault_outer}
+use Rattle.mg_engine_collecting_laws.specs.PlaceLeaves.{CollectionsLeave}
+use Rattle.mg_engine_collecting_laws.specs.PlaceStays.{CollectionsAreNobodys, IsNobodysEvent}
+use Rattle.mg_engine_collecting_laws.specs.PlaceTells.{CollectionsTell}
+use Rattle.mg_engine_collecting_laws.specs.Versions.{HasKept, collecting}
+use Rattle.mg_engine_meaning_laws.specs.Counts.{HasCounts}
+use Rattle.mg_engine_meaning_laws.specs.DirectoryLaws.{knows_key}
+use Rattle.mg_engine_meaning_laws.specs.Meaning.{means, means_with_room}
+use Rattle.mg_engine_meaning_laws.specs.Standings.{ShowsIt, StandsFor, standing_of}
+use Rattle.mg_engine_meaning_laws.specs.StepLaws.{shows_of}
 use Rattle.mg_heap.specs.Listed.{IsRecordOf}
 use Rattle.mg_heap.specs.Stands.{TablesAreWalked}
 use Rattle.mg_image.specs.Form.{Pages}
@@ -38,7 +38,7 @@ use Rattle.mg_model.specs.declared.opening.Opening.{Opening}
 use Rattle.mg_model.specs.declared.refusal.Refusal.{Refusal}
 use Rattle.mg_model.specs.declared.refusal.Refusal.TheVariants.{DatabaseFull}
 use Rattle.mg_model.specs.declared.table.Table.{Table}
-use Rattle.mg_no_damage.specs.CoreSpendingLaws.{unread_other}
+use Rattle.mg_no_damage_laws.specs.CoreSpendingLaws.{unread_other}
 use Rattle.mg_pool.specs.Dirty.{DirtyPages}
 use Rattle.mg_pool.specs.Pool.{shown}
 use Rattle.mg_records.specs.Asking.{TakesNoPage}

@@ -1,7 +1,7 @@
 -- A row that was asked for by its key is the one that the history tells, and nothing else comes of the call.
 use Rattle.std.proofs.Common.{◌≡◌, inl, inr, ◌<◌, ◌^◌, ℕ, Bool, true, false, List, [], ◌∷◌, Option, None, Some, Result, Ok, Err, refl, sym, ap, ◌∙◌, subst, arith}
 use Rattle.std.specs.Prelude.{IfOk, OnOk, get_or, if◌then◌else◌}
-use Rattle.mg_engine_meaning.specs.DirectoryLaws.{knows_key}
+use Rattle.mg_engine_meaning_laws.specs.DirectoryLaws.{knows_key}
 use Rattle.mg_heap.specs.Stands.{TablesAreWalked}
 use Rattle.mg_seek.specs.Readings.{SpeakersOfReadings}
 use Rattle.mg_base.specs.Disk.{Meaning}
@@ -22,26 +22,26 @@ use Rattle.mg_engine.proofs.UnreadLemmas.{unread_looks, unread_refused}
 use Rattle.mg_engine.specs.Keyed.{AnswersKey, AnswersNoted, FailsKey, GivesRow, KeysGoOn, NotesGoOn, ReadsKey}
 use Rattle.mg_engine.specs.Noting.{HasNoted, NotesKeys, OnlyLooks}
 use Rattle.mg_engine.specs.Places.{places as core_places}
-use Rattle.mg_engine_changes.specs.faults.FaultCoreLaws.{only_read}
-use Rattle.mg_engine_meaning.specs.Counts.{HasCounts}
-use Rattle.mg_engine_meaning.specs.FrameLaws.{sessions_of, works_same}
-use Rattle.mg_engine_meaning.specs.LawfulLaws.{memory_of}
-use Rattle.mg_engine_meaning.specs.Meaning.{Places, means}
-use Rattle.mg_engine_meaning.specs.Standings.{ShowsIt, StandsFor, standing_of}
-use Rattle.mg_engine_meaning.specs.StepLaws.{refused_none, shows_of}
-use Rattle.mg_engine_meaning.specs.Steps.{AddsNone, ReadsGoOn}
-use Rattle.mg_engine_steps.specs.reads.AnswersLaws.{NothingAtKeys, RowsAtKeys, SpeakersAreTold, TellsSpeaker}
-use Rattle.mg_engine_steps.specs.reads.KeyAnswers.{has_speaker}
-use Rattle.mg_engine_steps.specs.standing.Known.{IsShown, KnowsPages, facts_shown, speaker_of}
-use Rattle.mg_engine_steps.specs.standing.Standing.{Standing}
-use Rattle.mg_generations.specs.Generations.{sees, shown_by}
-use Rattle.mg_generations.specs.Laws.{ChainsShowViews}
+use Rattle.mg_engine_change_laws.specs.faults.FaultCoreLaws.{only_read}
+use Rattle.mg_engine_meaning_laws.specs.Counts.{HasCounts}
+use Rattle.mg_engine_meaning_laws.specs.FrameLaws.{sessions_of, works_same}
+use Rattle.mg_engine_meaning_laws.specs.LawfulLaws.{memory_of}
+use Rattle.mg_engine_meaning_laws.specs.Meaning.{Places, means}
+use Rattle.mg_engine_meaning_laws.specs.Standings.{ShowsIt, StandsFor, standing_of}
+use Rattle.mg_engine_meaning_laws.specs.StepLaws.{refused_none, shows_of}
+use Rattle.mg_engine_meaning_laws.specs.Steps.{AddsNone, ReadsGoOn}
+use Rattle.mg_engine_step_laws.specs.reads.AnswersLaws.{NothingAtKeys, RowsAtKeys, SpeakersAreTold, TellsSpeaker}
+use Rattle.mg_engine_step_laws.specs.reads.KeyAnswers.{has_speaker}
+use Rattle.mg_engine_step_laws.specs.standing.Known.{IsShown, KnowsPages, facts_shown, speaker_of}
+use Rattle.mg_engine_step_laws.specs.standing.Standing.{Standing}
+use Rattle.mg_generation_laws.specs.Generations.{sees, shown_by}
+use Rattle.mg_generation_laws.specs.Laws.{ChainsShowViews}
 use Rattle.mg_image.specs.declared.entry.Entry.{Entry}
 use Rattle.mg_image.specs.Form.{Pages, Row, packed_coding}
 use Rattle.mg_image.specs.Held.{told_row}
 use Rattle.mg_image.specs.RecordRules.{Each, Facts, IsVersion}
 use Rattle.mg_image.specs.Records.{key_of, record_key, writer}
-use Rattle.mg_image_overlays.specs.records.Fronts.{is_dead, living}
+use Rattle.mg_image_overlay_laws.specs.records.Fronts.{is_dead, living}
 use Rattle.mg_model.specs.declared.opening.Opening.{Opening}
 use Rattle.mg_model.specs.declared.refusal.Refusal.{Refusal}
 use Rattle.mg_model.specs.declared.table.Table.{Table}
@@ -51,12 +51,12 @@ use Rattle.mg_model.specs.Changes.{Cells, row_at, same_name}
 use Rattle.mg_model.specs.History.{Entries}
 use Rattle.mg_model.specs.Laws.{OpeningsBegin}
 use Rattle.mg_model.specs.Machine.{state_of, view}
-use Rattle.mg_no_damage.specs.CoreReads.{KeysAreNoted, RowsAreFound, ShowsTable}
-use Rattle.mg_no_damage.specs.CoreSpendingLaws.{refused_by}
-use Rattle.mg_no_damage.specs.FewPagesLaws.{room_alike, room_kept}
-use Rattle.mg_no_damage.specs.ShownLaws.{shown_table}
-use Rattle.mg_no_damage.specs.Stands.{TellsNone}
-use Rattle.mg_no_damage.specs.Sound.{SoundRecordsAreLawful, SoundTablesStand}
+use Rattle.mg_no_damage_laws.specs.CoreReads.{KeysAreNoted, RowsAreFound, ShowsTable}
+use Rattle.mg_no_damage_laws.specs.CoreSpendingLaws.{refused_by}
+use Rattle.mg_no_damage_laws.specs.FewPagesLaws.{room_alike, room_kept}
+use Rattle.mg_no_damage_laws.specs.ShownLaws.{shown_table}
+use Rattle.mg_no_damage_laws.specs.Stands.{TellsNone}
+use Rattle.mg_no_damage_laws.specs.Sound.{SoundRecordsAreLawful, SoundTablesStand}
 use Rattle.mg_pool.specs.Dirty.{DirtyPages}
 use Rattle.mg_pool.specs.Pool.{shown}
 use Rattle.mg_records.specs.Crashing.{LeavesQuietly}

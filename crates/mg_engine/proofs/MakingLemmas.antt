@@ -14,11 +14,11 @@ use Rattle.mg_value.specs.Names.{IsName}
 use Rattle.mg_value.specs.declared.shape.Shape.{Shape}
 use Rattle.mg_works.specs.Works.{AreApart}
 use Rattle.mg_engine.specs.Engines.{IsEngine}
-use Rattle.mg_engine_changes.specs.tables.MakingSteps.{CreationsKeepApart, GivesTable, MayHave, RefusalsKeepApart, TablesAreMade, TablesAreRefused}
-use Rattle.mg_engine_meaning.specs.Meaning.{Places, means}
-use Rattle.mg_engine_changes.specs.memory.Notes.{AreCounts}
-use Rattle.mg_no_damage.specs.FewPagesCalls.{CreationsTakeFew}
-use Rattle.mg_no_damage.specs.Creations.{CreationsMeetNone}
+use Rattle.mg_engine_change_laws.specs.tables.MakingSteps.{CreationsKeepApart, GivesTable, MayHave, RefusalsKeepApart, TablesAreMade, TablesAreRefused}
+use Rattle.mg_engine_meaning_laws.specs.Meaning.{Places, means}
+use Rattle.mg_engine_change_laws.specs.memory.Notes.{AreCounts}
+use Rattle.mg_no_damage_laws.specs.FewPagesCalls.{CreationsTakeFew}
+use Rattle.mg_no_damage_laws.specs.Creations.{CreationsMeetNone}
 use Rattle.mg_engine.proofs.ToldLemmas.{room_as, undamaged_as}
 
 module _ {D P : Type 0} (m : Meaning D) (places : Places P) (inside old new : Core D) (same : inside ≡ old)

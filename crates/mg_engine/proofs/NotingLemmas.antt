@@ -10,30 +10,30 @@ use Rattle.mg_core.specs.declared.scanning.Place.{Place}
 use Rattle.mg_engine.proofs.GivenLemmas.{given_begins_elsewhere, given_there}
 use Rattle.mg_engine.specs.Keyed.{AnswersKey, AnswersNoted, NotesGoOn}
 use Rattle.mg_engine.specs.Noting.{NotesKeys, OnlyLooks}
-use Rattle.mg_engine_changes.specs.faults.FaultCoreLaws.{only_read}
-use Rattle.mg_engine_meaning.specs.DirectoryLaws.{made_stands}
-use Rattle.mg_engine_meaning.specs.FrameLaws.{sessions_of, works_same}
-use Rattle.mg_engine_meaning.specs.Meaning.{AreNext, Places, means, place_at}
-use Rattle.mg_engine_meaning.specs.Standings.{ShowsIt, StandsFor, standing_of}
-use Rattle.mg_engine_meaning.specs.StepLaws.{as_standing, shows_of}
-use Rattle.mg_engine_meaning.specs.Steps.{ReadsGoOn}
-use Rattle.mg_engine_steps.specs.writes.Batches.{ReadsLast}
-use Rattle.mg_engine_steps.specs.standing.Standing.{Standing}
-use Rattle.mg_engine_steps.specs.reads.Walking.{WalkPlace}
+use Rattle.mg_engine_change_laws.specs.faults.FaultCoreLaws.{only_read}
+use Rattle.mg_engine_meaning_laws.specs.DirectoryLaws.{made_stands}
+use Rattle.mg_engine_meaning_laws.specs.FrameLaws.{sessions_of, works_same}
+use Rattle.mg_engine_meaning_laws.specs.Meaning.{AreNext, Places, means, place_at}
+use Rattle.mg_engine_meaning_laws.specs.Standings.{ShowsIt, StandsFor, standing_of}
+use Rattle.mg_engine_meaning_laws.specs.StepLaws.{as_standing, shows_of}
+use Rattle.mg_engine_meaning_laws.specs.Steps.{ReadsGoOn}
+use Rattle.mg_engine_step_laws.specs.writes.Batches.{ReadsLast}
+use Rattle.mg_engine_step_laws.specs.standing.Standing.{Standing}
+use Rattle.mg_engine_step_laws.specs.reads.Walking.{WalkPlace}
 use Rattle.mg_heap.specs.Stands.{TablesAreWalked}
 use Rattle.mg_image.specs.Form.{packed_form}
-use Rattle.mg_image_overlays.specs.tables.OneLayout.{StandsOneWay}
+use Rattle.mg_image_overlay_laws.specs.tables.OneLayout.{StandsOneWay}
 use Rattle.mg_model.specs.Changes.{Cells, KeyedRows}
 use Rattle.mg_model.specs.History.{Entries}
 use Rattle.mg_model.specs.Laws.{OpeningsBegin}
 use Rattle.mg_model.specs.declared.opening.Opening.{Opening}
 use Rattle.mg_model.specs.declared.refusal.Refusal.{Refusal}
 use Rattle.mg_model.specs.declared.table.Table.{Table}
-use Rattle.mg_no_damage.specs.CoreReads.{KeysAreNoted}
-use Rattle.mg_no_damage.specs.FewPagesLaws.{room_alike}
-use Rattle.mg_no_damage.specs.ShownLaws.{shown_table}
-use Rattle.mg_no_damage.specs.Sound.{SoundRecordsAreLawful, SoundTablesStand}
-use Rattle.mg_no_damage.specs.Stands.{TellsNone}
+use Rattle.mg_no_damage_laws.specs.CoreReads.{KeysAreNoted}
+use Rattle.mg_no_damage_laws.specs.FewPagesLaws.{room_alike}
+use Rattle.mg_no_damage_laws.specs.ShownLaws.{shown_table}
+use Rattle.mg_no_damage_laws.specs.Sound.{SoundRecordsAreLawful, SoundTablesStand}
+use Rattle.mg_no_damage_laws.specs.Stands.{TellsNone}
 use Rattle.mg_pool.specs.Dirty.{DirtyPages}
 use Rattle.mg_pool.specs.Pool.{shown}
 use Rattle.mg_records.specs.Crashing.{LeavesQuietly}

@@ -14,9 +14,9 @@ use Rattle.mg_core.specs.declared.parts.Core.{Core}
 use Rattle.mg_core.specs.declared.scanning.Place.{Place}
 use Rattle.mg_core.specs.Scanning.{Scans}
 use Rattle.mg_core.specs.Tables.{AnswersTable, RefusesName, by_call, by_fault, by_lack, by_memory}
-use Rattle.mg_engine_meaning.specs.Meaning.{means}
-use Rattle.mg_engine_meaning.specs.Reads.{AreRanked, GivesTable, IsInRank, TablesGoOn, VisitsGoOn, VisitsRecord}
-use Rattle.mg_no_damage.specs.Walks.{IsShortPlace, VisitsMeetNone}
+use Rattle.mg_engine_meaning_laws.specs.Meaning.{means}
+use Rattle.mg_engine_meaning_laws.specs.Reads.{AreRanked, GivesTable, IsInRank, TablesGoOn, VisitsGoOn, VisitsRecord}
+use Rattle.mg_no_damage_laws.specs.Walks.{IsShortPlace, VisitsMeetNone}
 use Rattle.mg_engine.specs.Engines.{IsEngine}
 use Rattle.mg_engine.specs.Places.{places as core_places}
 

@@ -4,7 +4,7 @@ use Rattle.std.specs.Prelude.{length}
 use Rattle.mg_base.specs.Disk.{Meaning}
 use Rattle.mg_base.specs.declared.numbers.TxNo.{TxNo}
 use Rattle.mg_core.specs.declared.parts.Core.{Core}
-use Rattle.mg_engine_meaning.specs.Meaning.{Places, means, means_with_room}
+use Rattle.mg_engine_meaning_laws.specs.Meaning.{Places, means, means_with_room}
 use Rattle.mg_expr.specs.declared.expr.Expr.{Expr}
 use Rattle.mg_model.specs.declared.change.Point.TheVariants.{LastMark, SavepointNamed}
 use Rattle.mg_model.specs.declared.event.Event.{Event}
@@ -12,8 +12,8 @@ use Rattle.mg_model.specs.declared.opening.Opening.{Opening}
 use Rattle.mg_model.specs.declared.refusal.Refusal.{Refusal}
 use Rattle.mg_model.specs.Changes.{Cells}
 use Rattle.mg_model.specs.History.{Entries}
-use Rattle.mg_no_damage.specs.FewPagesLaws.{has_fewer}
-use Rattle.mg_no_damage.specs.WithRoom.{TakesPages, adds_with, fine_full, finds_with, goes_with, makes_with, number_full, reads_with, undoes_with}
+use Rattle.mg_no_damage_laws.specs.FewPagesLaws.{has_fewer}
+use Rattle.mg_no_damage_laws.specs.WithRoom.{TakesPages, adds_with, fine_full, finds_with, goes_with, makes_with, number_full, reads_with, undoes_with}
 use Rattle.mg_records.specs.Adding.{Adds, fine_or, number_or}
 use Rattle.mg_records.specs.Asking.{TakesNoPage}
 use Rattle.mg_records.specs.Keeping.{Keeps, Reads, refusal_in}

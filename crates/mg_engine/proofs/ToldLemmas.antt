@@ -2,11 +2,11 @@
 use Rattle.std.proofs.Common.{◌≡◌, ◌*◌, ℕ, Option, Some, ap, subst}
 use Rattle.mg_base.specs.Disk.{Meaning}
 use Rattle.mg_core.specs.declared.parts.Core.{Core}
-use Rattle.mg_engine_changes.specs.faults.Told.{TellsFaults, disk_count}
+use Rattle.mg_engine_change_laws.specs.faults.Told.{TellsFaults, disk_count}
 use Rattle.mg_faults.specs.Faults.{each_fault, failed_writes}
-use Rattle.mg_no_damage.specs.Stands.{DamageStands}
-use Rattle.mg_no_damage.specs.FewPages.{CoreTakes, RoomStands, RoomStandsBack}
-use Rattle.mg_engine_meaning.specs.Meaning.{Places, means}
+use Rattle.mg_no_damage_laws.specs.Stands.{DamageStands}
+use Rattle.mg_no_damage_laws.specs.FewPages.{CoreTakes, RoomStands, RoomStandsBack}
+use Rattle.mg_engine_meaning_laws.specs.Meaning.{Places, means}
 use Rattle.mg_model.specs.Machine.{steps}
 use Rattle.mg_model.specs.declared.change.Point.{Point}
 use Rattle.mg_model.specs.declared.refusal.Refusal.{Refusal}

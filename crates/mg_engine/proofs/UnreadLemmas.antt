@@ -7,21 +7,21 @@ use Rattle.mg_core.specs.Reading.{FailsReading}
 use Rattle.mg_core.specs.declared.parts.Core.{Core}
 use Rattle.mg_core.specs.declared.scanning.Place.{Place}
 use Rattle.mg_engine.specs.Noting.{OnlyLooks}
-use Rattle.mg_engine_changes.specs.faults.FaultCoreLaws.{not_read}
-use Rattle.mg_engine_meaning.specs.Counts.{HasCounts}
-use Rattle.mg_engine_meaning.specs.FaultLaws.{IsOuter, fault_outer}
-use Rattle.mg_engine_meaning.specs.FrameLaws.{sessions_of, works_same}
-use Rattle.mg_engine_meaning.specs.Meaning.{Places, means}
-use Rattle.mg_engine_meaning.specs.Standings.{StandsFor}
-use Rattle.mg_engine_meaning.specs.Steps.{ReadsGoOn}
+use Rattle.mg_engine_change_laws.specs.faults.FaultCoreLaws.{not_read}
+use Rattle.mg_engine_meaning_laws.specs.Counts.{HasCounts}
+use Rattle.mg_engine_meaning_laws.specs.FaultLaws.{IsOuter, fault_outer}
+use Rattle.mg_engine_meaning_laws.specs.FrameLaws.{sessions_of, works_same}
+use Rattle.mg_engine_meaning_laws.specs.Meaning.{Places, means}
+use Rattle.mg_engine_meaning_laws.specs.Standings.{StandsFor}
+use Rattle.mg_engine_meaning_laws.specs.Steps.{ReadsGoOn}
 use Rattle.mg_image.specs.Form.{Pages}
 use Rattle.mg_model.specs.History.{Entries}
 use Rattle.mg_model.specs.declared.opening.Opening.{Opening}
 use Rattle.mg_model.specs.declared.refusal.Refusal.{Refusal}
-use Rattle.mg_no_damage.specs.CoreSpendingLaws.{unread_other}
-use Rattle.mg_no_damage.specs.FewPagesLaws.{room_alike}
-use Rattle.mg_no_damage.specs.StageLaws.{unread_stands}
-use Rattle.mg_no_damage.specs.Stands.{TellsNone}
+use Rattle.mg_no_damage_laws.specs.CoreSpendingLaws.{unread_other}
+use Rattle.mg_no_damage_laws.specs.FewPagesLaws.{room_alike}
+use Rattle.mg_no_damage_laws.specs.StageLaws.{unread_stands}
+use Rattle.mg_no_damage_laws.specs.Stands.{TellsNone}
 use Rattle.mg_pool.specs.Dirty.{DirtyPages}
 use Rattle.mg_pool.specs.Pool.{shown}
 use Rattle.mg_pool.specs.declared.pool.Pool.{Pool}

@@ -16,9 +16,9 @@ use Rattle.mg_value.specs.declared.shape.Kind.TheVariants as kinds
 use Rattle.mg_works.specs.Works.{MayBeGiven, given_to}
 use Rattle.mg_engine.specs.Changing.{ChangesGoOn, GivesWrite, WritesFirst}
 use Rattle.mg_engine.specs.Engines.{IsEngine}
-use Rattle.mg_engine_meaning.specs.Frames.{GivesEvent}
-use Rattle.mg_engine_meaning.specs.Counts.{HasCounts}
-use Rattle.mg_engine_meaning.specs.Meaning.{Places}
+use Rattle.mg_engine_meaning_laws.specs.Frames.{GivesEvent}
+use Rattle.mg_engine_meaning_laws.specs.Counts.{HasCounts}
+use Rattle.mg_engine_meaning_laws.specs.Meaning.{Places}
 
 -- ---- the laws
 

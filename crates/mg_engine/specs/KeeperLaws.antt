@@ -1,10 +1,10 @@
 -- What is true of every engine as a keeper of records.
 use Rattle.std.proofs.Common.{◌≡◌, ◌∙◌, Some, ap, sym}
 use Rattle.mg_base.specs.Disk.{Meaning}
-use Rattle.mg_engine_meaning.specs.LawfulLaws.{walks_are_whole}
-use Rattle.mg_engine_meaning.specs.Meaning.{Places, means}
-use Rattle.mg_engine_steps.specs.reads.WalkAnswers.{walks_begin}
-use Rattle.mg_generations.specs.KeptShowLaws.{chain_shows_view}
+use Rattle.mg_engine_meaning_laws.specs.LawfulLaws.{walks_are_whole}
+use Rattle.mg_engine_meaning_laws.specs.Meaning.{Places, means}
+use Rattle.mg_engine_step_laws.specs.reads.WalkAnswers.{walks_begin}
+use Rattle.mg_generation_laws.specs.KeptShowLaws.{chain_shows_view}
 use Rattle.mg_records.specs.Reading.{WalksAreWhole}
 use Rattle.mg_records.specs.Sessions.{SessionsAreOne}
 use Rattle.mg_seek.specs.ViewLaws.{walks_show_views}

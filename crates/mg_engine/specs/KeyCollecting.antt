@@ -8,19 +8,19 @@ use Rattle.mg_core.specs.Cores.{Continues, IsCore, RefusesCall}
 use Rattle.mg_core.specs.Writing.{ReadsKnown}
 use Rattle.mg_core.specs.declared.parts.Core.{Core}
 use Rattle.mg_core_collecting.specs.Places.{CollectsPlace}
-use Rattle.mg_engine_changes.specs.faults.Told.{TellsFaults}
-use Rattle.mg_engine_collecting.specs.Versions.{collecting}
-use Rattle.mg_engine_meaning.specs.Counts.{HasCounts}
-use Rattle.mg_engine_meaning.specs.Meaning.{means}
-use Rattle.mg_engine_meaning.specs.Standings.{StandsFor}
+use Rattle.mg_engine_change_laws.specs.faults.Told.{TellsFaults}
+use Rattle.mg_engine_collecting_laws.specs.Versions.{collecting}
+use Rattle.mg_engine_meaning_laws.specs.Counts.{HasCounts}
+use Rattle.mg_engine_meaning_laws.specs.Meaning.{means}
+use Rattle.mg_engine_meaning_laws.specs.Standings.{StandsFor}
 use Rattle.mg_model.specs.History.{Entries}
 use Rattle.mg_model.specs.Legal.{is_outer}
 use Rattle.mg_model.specs.declared.answer.Answer.TheVariants.{No}
 use Rattle.mg_model.specs.declared.opening.Opening.{Opening}
 use Rattle.mg_model.specs.declared.refusal.Refusal.{Refusal}
 use Rattle.mg_model.specs.declared.table.Table.{Table}
-use Rattle.mg_no_damage.specs.FewPages.{RoomStands}
-use Rattle.mg_no_damage.specs.Stands.{DamageStands}
+use Rattle.mg_no_damage_laws.specs.FewPages.{RoomStands}
+use Rattle.mg_no_damage_laws.specs.Stands.{DamageStands}
 use Rattle.mg_records.specs.Asking.{TakesNoPage}
 use Rattle.mg_records.specs.Crashing.{LeavesQuietly}
 use Rattle.mg_records.specs.Keeping.{Reads, refusal_in}

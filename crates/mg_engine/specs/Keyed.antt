@@ -9,15 +9,15 @@ use Rattle.mg_core.specs.Noting.{MakesDirectory}
 use Rattle.mg_core.specs.Reading.{FailsReading}
 use Rattle.mg_core.specs.Writing.{ReadsKnown, WhyOfKnown}
 use Rattle.mg_engine.specs.Noting.{FailsNoting, HasNoted, OnlyLooks}
-use Rattle.mg_engine_changes.specs.faults.Asked.{AsksNoWrite}
-use Rattle.mg_engine_changes.specs.faults.Told.{TellsFaults}
-use Rattle.mg_engine_meaning.specs.Counts.{HasCounts}
-use Rattle.mg_engine_meaning.specs.Meaning.{Places, means}
+use Rattle.mg_engine_change_laws.specs.faults.Asked.{AsksNoWrite}
+use Rattle.mg_engine_change_laws.specs.faults.Told.{TellsFaults}
+use Rattle.mg_engine_meaning_laws.specs.Counts.{HasCounts}
+use Rattle.mg_engine_meaning_laws.specs.Meaning.{Places, means}
 use Rattle.mg_model.specs.declared.refusal.Refusal.{Refusal}
 use Rattle.mg_model.specs.declared.table.Table.{Table}
 use Rattle.mg_model.specs.Changes.{Cells}
-use Rattle.mg_no_damage.specs.FewPages.{RoomStands}
-use Rattle.mg_no_damage.specs.Stands.{DamageStands}
+use Rattle.mg_no_damage_laws.specs.FewPages.{RoomStands}
+use Rattle.mg_no_damage_laws.specs.Stands.{DamageStands}
 use Rattle.mg_records.specs.Adding.{AnswersAll}
 use Rattle.mg_records.specs.Crashing.{LeavesQuietly}
 use Rattle.mg_records.specs.Keeping.{Reads, refusal_in}

@@ -6,13 +6,13 @@ use Rattle.mg_core.specs.Cores.{Continues, IsCore}
 use Rattle.mg_core.specs.Noting.{MakesDirectory, WhyNotMade}
 use Rattle.mg_core.specs.Reading.{FailsReading}
 use Rattle.mg_core.specs.declared.parts.Core.{Core}
-use Rattle.mg_engine_changes.specs.faults.Asked.{AsksNoWrite}
-use Rattle.mg_engine_changes.specs.faults.Told.{TellsFaults}
-use Rattle.mg_engine_meaning.specs.Meaning.{Places, means}
+use Rattle.mg_engine_change_laws.specs.faults.Asked.{AsksNoWrite}
+use Rattle.mg_engine_change_laws.specs.faults.Told.{TellsFaults}
+use Rattle.mg_engine_meaning_laws.specs.Meaning.{Places, means}
 use Rattle.mg_model.specs.declared.refusal.Refusal.{Refusal}
 use Rattle.mg_model.specs.declared.table.Table.{Table}
-use Rattle.mg_no_damage.specs.FewPages.{RoomStands}
-use Rattle.mg_no_damage.specs.Stands.{DamageStands}
+use Rattle.mg_no_damage_laws.specs.FewPages.{RoomStands}
+use Rattle.mg_no_damage_laws.specs.Stands.{DamageStands}
 use Rattle.mg_records.specs.Crashing.{LeavesQuietly}
 use Rattle.mg_records.specs.Keeping.{Reads}
 use Rattle.mg_records.specs.Sessions.{SessionsStay}

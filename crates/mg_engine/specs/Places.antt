@@ -1,7 +1,7 @@
 -- The places of walks.
 use Rattle.std.specs.Prelude.{◌*◌, ◌+◌}
 use Rattle.mg_core.specs.declared.scanning.Place.{Place}
-use Rattle.mg_engine_meaning.specs.Meaning.{Places}
+use Rattle.mg_engine_meaning_laws.specs.Meaning.{Places}
 
 -- places are ranked by the sequence of the data page, and then by the slot, which has two bytes
 abbrev pub places : Places Place

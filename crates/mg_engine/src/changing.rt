@@ -9,12 +9,12 @@ use crate::keyed::notes_go_on;
 use crate::noting::note_keys_first;
 use mg_base::{Disk, TxNo};
 use mg_core::{Core, Place};
-use mg_engine_changes::{
+use mg_engine_change_laws::{
     changes_tell_faults, noted_writes_give, noted_writes_keep_apart, unread_writes_give,
 };
-use mg_engine_meaning::reads_go_on;
+use mg_engine_meaning_laws::reads_go_on;
 use mg_model::{Refusal, Table};
-use mg_no_damage::{
+use mg_no_damage_laws::{
     reads_meet_no_damage, sound_images_are_lawful, writes_meet_no_damage, writes_take_few,
 };
 use mg_records::Write;

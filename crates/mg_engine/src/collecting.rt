@@ -5,17 +5,17 @@ ghost use Rattle.mg_core.specs.Cores.{IsCore};
 ghost use Rattle.mg_works.specs.Works.{MayBeGiven};
 ghost use Rattle.mg_engine.specs.KeyCollecting.{CollectsAtKey, CollectsFound, KeyCollectionsGoOn};
 ghost use Rattle.mg_engine.specs.Places.{places};
-ghost use Rattle.mg_engine_collecting.specs.Versions.{collecting as collecting_of};
+ghost use Rattle.mg_engine_collecting_laws.specs.Versions.{collecting as collecting_of};
 
 use crate::engine::Engine;
 use crate::keyed::keys_go_on;
 use crate::sizes::counts_fit;
 use mg_base::{Disk, RecId, TxNo};
-use mg_collecting_damage::{collections_meet_no_damage, every_meets_no_damage};
-use mg_collecting_room::{collections_take_none, every_takes_none};
+use mg_collecting_damage_laws::{collections_meet_no_damage, every_meets_no_damage};
+use mg_collecting_room_laws::{collections_take_none, every_takes_none};
 use mg_core::{Core, Place};
 use mg_core_collecting::{collect_every, collect_place};
-use mg_engine_collecting::{
+use mg_engine_collecting_laws::{
     collections_are_nobodys, collections_leave, collections_tell_faults, every_is_nobodys,
     every_leaves, every_tells_faults,
 };

@@ -1,8 +1,8 @@
 //! The engine as a keeper of records.
 
-ghost use Rattle.mg_engine_meaning.specs.Meaning.{means, means_with_room};
-ghost use Rattle.mg_engine_meaning.specs.LawfulLaws.{crashes_hold, holds_on, pages_are_few, tables_are_seen};
-ghost use Rattle.mg_no_damage.specs.AlikeRoom.{crashes_with, lasts_with, one_with, seen_with, whole_with};
+ghost use Rattle.mg_engine_meaning_laws.specs.Meaning.{means, means_with_room};
+ghost use Rattle.mg_engine_meaning_laws.specs.LawfulLaws.{crashes_hold, holds_on, pages_are_few, tables_are_seen};
+ghost use Rattle.mg_no_damage_laws.specs.AlikeRoom.{crashes_with, lasts_with, one_with, seen_with, whole_with};
 ghost use Rattle.mg_engine.specs.Places.{places};
 ghost use Rattle.mg_engine.specs.KeeperLaws.{sessions_are_one, walks_come_to_all};
 
@@ -12,19 +12,19 @@ use crate::sizes::{copy_place, counts_fit, ranked, slots_fit, tell_counts};
 use crate::taking::{take_to_mark, take_to_savepoint};
 use mg_base::{Disk, Memory, TxNo};
 use mg_core::Place;
-use mg_engine_changes::{
+use mg_engine_change_laws::{
     begins_tell_faults, changes_tell_faults, commits_tell_faults, commits_want_nothing,
     creations_keep_apart, events_take_no_page, events_tell_faults, events_write_none,
     page_writes_ask_one, page_writes_tell_faults, readings_tell_faults, readings_write_none,
     tables_are_made,
 };
-use mg_engine_meaning::{
+use mg_engine_meaning_laws::{
     begins_give, commits_go, looks_go_on, points_go_on, rollbacks_go, steps_go_on, tables_go_on,
     visits_go_on,
 };
 use mg_expr::Expr;
 use mg_model::{Mode, Refusal, Rows, Table};
-use mg_no_damage::{
+use mg_no_damage_laws::{
     begins_meet_no_damage, begins_take_few, commits_meet_no_damage, commits_take_none,
     creations_meet_no_damage, creations_take_few, events_meet_no_damage, events_take_none,
     readings_take_none, tables_meet_no_damage, visits_meet_no_damage,

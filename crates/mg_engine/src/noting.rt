@@ -5,7 +5,7 @@ ghost use Rattle.std.specs.Prelude.{MatchResult};
 ghost use Rattle.mg_core.specs.Cores.{IsCore};
 ghost use Rattle.mg_core.specs.Noting.{WhyNotMade};
 ghost use Rattle.mg_engine.specs.Noting.{FailsNoting, NotesKeys};
-ghost use Rattle.mg_engine_changes.specs.rows.Unread.{LeavesUnread};
+ghost use Rattle.mg_engine_change_laws.specs.rows.Unread.{LeavesUnread};
 ghost use Rattle.mg_works.specs.Works.{MayBeGiven};
 
 use mg_base::{Disk, TxNo};

@@ -2,13 +2,13 @@
 
 ghost use Rattle.std.specs.Prelude.{◌≡◌, ◌≤◌};
 ghost use Rattle.mg_core.specs.Cores.{IsCore};
-ghost use Rattle.mg_engine_meaning.specs.Closings.{ClosesEngine};
-ghost use Rattle.mg_engine_meaning.specs.Openings.{OpensEngine};
+ghost use Rattle.mg_engine_meaning_laws.specs.Closings.{ClosesEngine};
+ghost use Rattle.mg_engine_meaning_laws.specs.Openings.{OpensEngine};
 
 use crate::engine::Engine;
 use mg_base::Disk;
 use mg_core::Core;
-use mg_engine_meaning::{closings_leave, openings_stand};
+use mg_engine_meaning_laws::{closings_leave, openings_stand};
 use mg_model::Refusal;
 use mg_pool::CLEAN_PAGES;
 use std::alloc::Global;

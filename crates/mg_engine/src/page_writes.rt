@@ -7,17 +7,17 @@ ghost use Rattle.mg_records.specs.Keeping.{FaultsAreTold, MeetsNoDamage, Reads, 
 ghost use Rattle.mg_records.specs.Room.{TakesFew};
 ghost use Rattle.mg_records.specs.Sessions.{SessionsStay};
 ghost use Rattle.mg_core.specs.Committing.{WritesPage};
-ghost use Rattle.mg_engine_meaning.specs.NextPages.{WritesNext};
-ghost use Rattle.mg_engine_meaning.specs.Meaning.{means, means_with_room};
+ghost use Rattle.mg_engine_meaning_laws.specs.NextPages.{WritesNext};
+ghost use Rattle.mg_engine_meaning_laws.specs.Meaning.{means, means_with_room};
 ghost use Rattle.mg_engine.specs.Places.{places};
 
 use crate::engine::Engine;
 use mg_base::{Disk, PageNo};
 use mg_core::Place;
-use mg_engine_changes::{commits_want_nothing, page_writes_ask_one, page_writes_tell_faults};
-use mg_engine_meaning::next_pages_go_on;
+use mg_engine_change_laws::{commits_want_nothing, page_writes_ask_one, page_writes_tell_faults};
+use mg_engine_meaning_laws::next_pages_go_on;
 use mg_model::Refusal;
-use mg_no_damage::{commits_meet_no_damage, commits_take_none};
+use mg_no_damage_laws::{commits_meet_no_damage, commits_take_none};
 
 impl<D: Disk> Engine<D> {
     /// Writes one dirty page: the least one, or one that must precede it. The answer is its number, None exactly

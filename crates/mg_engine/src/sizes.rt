@@ -1,9 +1,9 @@
 //! What is known of places, and of counts, by their sizes.
 
 ghost use Rattle.std.specs.Prelude.{◌≡◌, ◌<◌, ◌^◌, Ok};
-ghost use Rattle.mg_engine_meaning.specs.Counts.{HasCounts};
-ghost use Rattle.mg_engine_meaning.specs.Reads.{IsInRank};
-ghost use Rattle.mg_no_damage.specs.Walks.{IsShortPlace};
+ghost use Rattle.mg_engine_meaning_laws.specs.Counts.{HasCounts};
+ghost use Rattle.mg_engine_meaning_laws.specs.Reads.{IsInRank};
+ghost use Rattle.mg_no_damage_laws.specs.Walks.{IsShortPlace};
 
 use mg_base::{Disk, Memory};
 use mg_core::{Core, Place};

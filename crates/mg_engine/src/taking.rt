@@ -1,11 +1,11 @@
 //! A transaction is taken back to a point.
 
 ghost use Rattle.mg_core.specs.Cores.{IsCore};
-ghost use Rattle.mg_engine_changes.specs.memory.Notes.{AreCounts};
-ghost use Rattle.mg_engine_changes.specs.backs.Outcomes.{IsBack, IsUndone};
-ghost use Rattle.mg_engine_changes.specs.faults.Told.{TellsFaults};
-ghost use Rattle.mg_no_damage.specs.Stands.{DamageStands};
-ghost use Rattle.mg_no_damage.specs.FewPages.{RoomStandsBack};
+ghost use Rattle.mg_engine_change_laws.specs.memory.Notes.{AreCounts};
+ghost use Rattle.mg_engine_change_laws.specs.backs.Outcomes.{IsBack, IsUndone};
+ghost use Rattle.mg_engine_change_laws.specs.faults.Told.{TellsFaults};
+ghost use Rattle.mg_no_damage_laws.specs.Stands.{DamageStands};
+ghost use Rattle.mg_no_damage_laws.specs.FewPages.{RoomStandsBack};
 ghost use Rattle.mg_model.specs.declared.change.Point.TheVariants.{LastMark, SavepointNamed};
 ghost use Rattle.mg_records.specs.Keeping.{refusal_in};
 ghost use Rattle.mg_engine.specs.Engines.{IsEngine};
@@ -13,9 +13,9 @@ ghost use Rattle.mg_engine.specs.Places.{places};
 
 use mg_base::{Disk, TxNo};
 use mg_core::{Core, Place};
-use mg_engine_changes::{backs_give, backs_give_over, backs_tell_faults};
+use mg_engine_change_laws::{backs_give, backs_give_over, backs_tell_faults};
 use mg_model::Refusal;
-use mg_no_damage::{
+use mg_no_damage_laws::{
     backs_meet_no_damage, backs_over_meet_no_damage, backs_over_take_few, backs_take_few,
 };
 use mg_table_takings::{back_over_tables, undo_tables_to_mark};

@@ -6,7 +6,7 @@
 //! by an entry asks the record itself. An entry that is there already is laid by a batch that puts no page.
 //!
 //! What a batch does to the tree is what `insert` of mg_btree promises (`PutsAndTakes`), so it is a batch of entries as
-//! the overlays take it (mg_entry_ties).
+//! the overlays take it (mg_entry_tie_laws).
 //!
 //! Definitions: `specs/Entries`; `EntryLaws` proves what the functions promise.
 //!

@@ -4,7 +4,7 @@ use Rattle.mg_base.specs.declared.numbers.RecId.{RecId}
 use Rattle.mg_base.specs.declared.transaction.TxState.{TxState}
 use Rattle.mg_heap.specs.Listed.{IsRecordOf}
 use Rattle.mg_image.specs.Form.{Pages}
-use Rattle.mg_key_entries.specs.KeyEntries.{SpeakersHaveEntries}
+use Rattle.mg_key_entry_laws.specs.KeyEntries.{SpeakersHaveEntries}
 use Rattle.mg_model.specs.declared.table.Table.{Table}
 use Rattle.mg_seek.specs.Candidates.{AreEnough}
 use Rattle.mg_seek.specs.TableRecords.{AreTableRecords, IsAmong}

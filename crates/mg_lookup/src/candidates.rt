@@ -5,7 +5,7 @@ ghost use Rattle.mg_base.specs.Image.{Image};
 ghost use Rattle.mg_btree.specs.Ranges.{no_pages};
 ghost use Rattle.mg_btree.specs.Reading.{Reads};
 ghost use Rattle.mg_image.specs.Indexes.{IsTree};
-ghost use Rattle.mg_key_entries.specs.KeptEntries.{primary_in, primary_of};
+ghost use Rattle.mg_key_entry_laws.specs.KeptEntries.{primary_in, primary_of};
 ghost use Rattle.mg_lookup.specs.Records.{GivesCandidates};
 ghost use Rattle.mg_model.specs.Changes.{same_name as same_name_test};
 ghost use Rattle.mg_model.specs.declared.table.Index.{Index as AnyIndex};

@@ -14,7 +14,7 @@
 //! proves what the walk keeps.
 //!
 //! Invariant: none, it keeps no state.
-//! Below: `mg_btree`, the walk along entries; `mg_seek`, who speaks for a key; `mg_key_entries`, the laws of the entries
+//! Below: `mg_btree`, the walk along entries; `mg_seek`, who speaks for a key; `mg_key_entry_laws`, the laws of the entries
 //! of keys. Above: the engine, once its tables have indexes.
 //! Not here: which records have their entries, and who lays them.
 #![tactic(auto)]

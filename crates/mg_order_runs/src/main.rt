@@ -32,8 +32,8 @@
 //! wanted stands as the table's words: its kind, two numbers, and its page.
 //!
 //! Invariant: none. Below: the crates that make batches, `mg_space` for the links of the format. Above: nothing.
-//! Not here: that each batch pays for its links (`mg_demands`), and that an order is needed wherever it pays
-//! (`mg_demands`).
+//! Not here: that each batch pays for its links (`mg_demand_laws`), and that an order is needed wherever it pays
+//! (`mg_demand_laws`).
 #![tactic(auto)]
 
 mod deeds;

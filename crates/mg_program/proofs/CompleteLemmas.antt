@@ -2,7 +2,7 @@
 use Rattle.std.proofs.Common.{◌≡◌, ◌⊎◌, ℕ, true, false, List, inl, inr, refl, ap, ◌∙◌, subst, arith}
 use Rattle.mg_base.specs.Disk.{Meaning, Rose}
 use Rattle.mg_base.specs.Streams.{SinkMeaning, SourceMeaning}
-use Rattle.mg_engine_meaning.specs.Openings.{IsNoJudgement}
+use Rattle.mg_engine_meaning_laws.specs.Openings.{IsNoJudgement}
 use Rattle.mg_model.specs.declared.opening.Opening.{Opening}
 use Rattle.mg_model.specs.declared.refusal.Refusal.{Refusal}
 use Rattle.mg_model.specs.declared.refusal.Refusal.TheVariants as refusals

@@ -5,9 +5,9 @@ use Rattle.mg_base.specs.Disk.{Meaning, Rose}
 use Rattle.mg_base.specs.Streams.{SinkMeaning}
 use Rattle.mg_core.specs.Cores.{IsCore}
 use Rattle.mg_core.specs.declared.parts.Core.{Core}
-use Rattle.mg_engine_meaning.specs.Closings.{ClosesEngine, RefusesClose}
-use Rattle.mg_engine_meaning.specs.Openings.{IsOpenedOver, RefusesOpening}
-use Rattle.mg_engine_meaning.specs.Meaning.{Places, means, means_with_room}
+use Rattle.mg_engine_meaning_laws.specs.Closings.{ClosesEngine, RefusesClose}
+use Rattle.mg_engine_meaning_laws.specs.Openings.{IsOpenedOver, RefusesOpening}
+use Rattle.mg_engine_meaning_laws.specs.Meaning.{Places, means, means_with_room}
 use Rattle.mg_model.specs.Answers.{is_active}
 use Rattle.mg_model.specs.Machine.{state_of}
 use Rattle.mg_model.specs.declared.opening.Opening.{Opening}

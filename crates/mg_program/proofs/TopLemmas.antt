@@ -6,12 +6,12 @@ use Rattle.mg_base.specs.Disk.{MayLeave, Meaning, Rose}
 use Rattle.mg_base.specs.Image.{Image}
 use Rattle.mg_base.specs.Moments.{LeavesOnly}
 use Rattle.mg_base.specs.Streams.{SinkMeaning, SourceMeaning}
-use Rattle.mg_engine_meaning.specs.Openings.{IsSettledOn}
+use Rattle.mg_engine_meaning_laws.specs.Openings.{IsSettledOn}
 use Rattle.mg_fuse.specs.Counting.{AsksExactly}
 use Rattle.mg_fuse.specs.Stopped.{IsNewlyStopped, StoppedDisksAreAskedForNoMore, StopsWithin, blown_of, inner_of, stopped_meaning}
 use Rattle.mg_fuse.specs.declared.stopped.Stopped.{Stopped}
 use Rattle.mg_image.specs.Form.{packed_form}
-use Rattle.mg_lasting.specs.Crashes.{HoldsFrom, asked}
+use Rattle.mg_lasting_laws.specs.Crashes.{HoldsFrom, asked}
 use Rattle.mg_model.specs.declared.opening.Opening.{Opening}
 use Rattle.mg_model.specs.declared.refusal.Refusal.{Refusal}
 use Rattle.mg_model.specs.declared.refusal.Refusal.TheVariants as refusals

@@ -4,8 +4,8 @@ use Rattle.mg_base.specs.Disk.{Meaning, Rose}
 use Rattle.mg_base.specs.Image.{Image}
 use Rattle.mg_base.specs.Streams.{SinkMeaning}
 use Rattle.mg_core.specs.declared.parts.Core.{Core}
-use Rattle.mg_engine_meaning.specs.Openings.{IsOpenedOver}
-use Rattle.mg_engine_meaning.specs.Meaning.{Places, means_with_room}
+use Rattle.mg_engine_meaning_laws.specs.Openings.{IsOpenedOver}
+use Rattle.mg_engine_meaning_laws.specs.Meaning.{Places, means_with_room}
 use Rattle.mg_model.specs.declared.opening.Opening.{Opening}
 use Rattle.mg_model.specs.declared.refusal.Refusal.{Refusal}
 use Rattle.mg_model.specs.declared.refusal.Refusal.TheVariants.{Memory}

@@ -2,7 +2,7 @@
 
 ghost use Rattle.std.specs.Prelude.{◌≡◌, ◌≤◌, ℕ, All, List, false};
 ghost use Rattle.mg_engine.specs.Places.{places};
-ghost use Rattle.mg_engine_meaning.specs.Openings.{IsOpenedOver};
+ghost use Rattle.mg_engine_meaning_laws.specs.Openings.{IsOpenedOver};
 ghost use Rattle.mg_works.specs.Works.{has_session};
 ghost use Rattle.mg_script.specs.declared.line.Line.{Line as AnyLine};
 ghost use Rattle.mg_scripts.specs.declared.lines.LinesEnd.TheVariants.{Whole};

@@ -14,8 +14,8 @@ use Rattle.mg_image.specs.RecordRules.{Facts, committed_in}
 use Rattle.mg_image.specs.Records.{Reading}
 use Rattle.mg_image.specs.Sound.{IsSound, IsSoundBy, facts_by, facts_of}
 use Rattle.mg_image.specs.Tables.{Layout}
-use Rattle.mg_image_overlays.specs.pages.Kinds.{HasNoSequences}
-use Rattle.mg_image_overlays.specs.kept.Rest.{div_grows}
+use Rattle.mg_image_overlay_laws.specs.pages.Kinds.{HasNoSequences}
+use Rattle.mg_image_overlay_laws.specs.kept.Rest.{div_grows}
 use Rattle.mg_release.specs.Releasing.{Releases}
 use Rattle.mg_release_laws.specs.Released.{MayGo, OpenedStays, SoundStays}
 use Rattle.mg_release_laws.specs.StaySound.{facts_same, header_is, stays_sound, tip_is, tip_kept}

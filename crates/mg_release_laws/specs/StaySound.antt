@@ -25,9 +25,9 @@ use Rattle.mg_image.specs.RecordRules.{AreRecords, Facts}
 use Rattle.mg_image.specs.Records.{Reading, cells_of, slot_cell}
 use Rattle.mg_image.specs.Sound.{HasHeader, HasInventory, HasNoneUndrawn, HasRegion, HasTablePages, HasTips, HasTransactions, IsIndexed, IsSoundBy, IsTableData, IsTablePointer, IsUndrawn, facts_by}
 use Rattle.mg_image.specs.Tables.{EachStand, Has, IsOnce, Layout, Stand, has, pages_of, stands_of, table_at, tree_pages}
-use Rattle.mg_image_overlays.specs.pages.DataPages.{all_passes, byte_blank, kind_of}
-use Rattle.mg_image_overlays.specs.pages.Growth.{has_back, has_front}
-use Rattle.mg_image_overlays.specs.pages.Kinds.{HasNoSequences, linked_is}
+use Rattle.mg_image_overlay_laws.specs.pages.DataPages.{all_passes, byte_blank, kind_of}
+use Rattle.mg_image_overlay_laws.specs.pages.Growth.{has_back, has_front}
+use Rattle.mg_image_overlay_laws.specs.pages.Kinds.{HasNoSequences, linked_is}
 use Rattle.mg_model.specs.declared.table.Table.{Table}
 use Rattle.mg_pip.specs.PipPage.{bits, pip_checks, used_in}
 use Rattle.mg_pip.specs.PipPageLaws.{same_tests, zero_unused}

@@ -6,13 +6,13 @@ use Rattle.mg_image.specs.Indexes.{AreChildren, AreNodes, AreTrees, EachPage, Fi
 use Rattle.mg_image.specs.Inventory.{is_used}
 use Rattle.mg_image.specs.KeptPageLaws.{link_chain_kept}
 use Rattle.mg_image.specs.Tables.{Has, LinkChain, ended, goes, tree_pages}
-use Rattle.mg_image_overlays.specs.pages.Growth.{has_back, has_either, has_front, wanted_still}
+use Rattle.mg_image_overlay_laws.specs.pages.Growth.{has_back, has_either, has_front, wanted_still}
 use Rattle.mg_model.specs.declared.table.Index.{Index}
 use Rattle.mg_node.specs.NodePage.{count_in, entries_of, first_entries, has_high, high_of, level_in, low_of, node_checks, right_in}
 use Rattle.mg_node.specs.declared.entry.Entry.{Entry}
 use Rattle.std.proofs.Common.{Bool, List, None, Option, Some, [], ap, arith, false, inl, inr, length, not, refl, subst, suc, sym, true, zero, ℕ, ◌++◌, ◌<◌, ◌∙◌, ◌∷◌, ◌≡◌, ◌≢◌, ◌≤◌, ◌⊎◌}
 use Rattle.std.proofs.lemmas.Bool.{eq-eqb}
-use Rattle.mg_tree_overlays.specs.TreePages.{all_of}
+use Rattle.mg_tree_overlay_laws.specs.TreePages.{all_of}
 use Rattle.mg_image.specs.Indexes as trees
 
 chain_first : (next : ℕ → ℕ) (k : ℕ) (ns : List ℕ) → LinkChain next k ns → (k ≡ 0) ⊎ Has ns k

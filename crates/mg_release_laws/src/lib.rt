@@ -7,7 +7,7 @@
 //!
 //! Invariant: none, it keeps no state.
 //! Below: `mg_release` and `mg_orphans`, for what is released; `mg_image`, for what a sound image is;
-//! `mg_image_overlays`, for the kinds of linked pages. Above: nobody yet; the command that writes the
+//! `mg_image_overlay_laws`, for the kinds of linked pages. Above: nobody yet; the command that writes the
 //! pages.
 //! Not here: which pages are reached, and the deed.
 #![tactic(auto)]

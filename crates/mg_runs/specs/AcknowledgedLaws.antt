@@ -4,7 +4,7 @@ use Rattle.mg_base.specs.Disk.{Meaning}
 use Rattle.mg_base.specs.Image.{Image}
 use Rattle.mg_base.specs.Streams.{SinkMeaning}
 use Rattle.mg_image.specs.Form.{packed_form}
-use Rattle.mg_lasting.specs.Crashes.{HoldsAcknowledged}
+use Rattle.mg_lasting_laws.specs.Crashes.{HoldsAcknowledged}
 use Rattle.mg_model.specs.declared.opening.Opening.{Opening}
 use Rattle.mg_model.specs.History.{Entries}
 use Rattle.mg_model.specs.Legal.{durable_count}

@@ -8,20 +8,20 @@ use Rattle.mg_base.specs.declared.geometry.Geometry.{Geometry}
 use Rattle.mg_base.specs.declared.transaction.TxState.{TxState}
 use Rattle.mg_base.specs.declared.transaction.TxState.TheVariants.{Active, Committed, Dead, Limbo}
 use Rattle.mg_core.specs.declared.parts.Core.{Core}
-use Rattle.mg_engine_meaning.specs.FreePages.{CoreHasFree}
-use Rattle.mg_engine_meaning.specs.LawfulLaws.{opening_of}
-use Rattle.mg_engine_meaning.specs.NewBegins.{NewBegin}
-use Rattle.mg_engine_meaning.specs.OpenedLaws.{settled_on_opened}
-use Rattle.mg_engine_meaning.specs.Openings.{BeginsWith, IsOpenedOver, IsSettledOn, IsSoundImage, new_history}
-use Rattle.mg_engine_meaning.specs.Standings.{StandsFor}
+use Rattle.mg_engine_meaning_laws.specs.FreePages.{CoreHasFree}
+use Rattle.mg_engine_meaning_laws.specs.LawfulLaws.{opening_of}
+use Rattle.mg_engine_meaning_laws.specs.NewBegins.{NewBegin}
+use Rattle.mg_engine_meaning_laws.specs.OpenedLaws.{settled_on_opened}
+use Rattle.mg_engine_meaning_laws.specs.Openings.{BeginsWith, IsOpenedOver, IsSettledOn, IsSoundImage, new_history}
+use Rattle.mg_engine_meaning_laws.specs.Standings.{StandsFor}
 use Rattle.mg_format.specs.Format.{HasNew, IsMade, IsUnmadeImage}
 use Rattle.mg_image.specs.Form.{Pages}
 use Rattle.mg_image.specs.Sound.{HasInventory}
 use Rattle.mg_model.specs.Answers.{is_active}
 use Rattle.mg_model.specs.Machine.{opening_state}
 use Rattle.mg_model.specs.declared.opening.Opening.{Opening}
-use Rattle.mg_new_databases.specs.FreeLaws.{new_has_free}
-use Rattle.mg_new_databases.specs.Soundness.{HasWholePages}
+use Rattle.mg_new_database_laws.specs.FreeLaws.{new_has_free}
+use Rattle.mg_new_database_laws.specs.Soundness.{HasWholePages}
 use Rattle.mg_pip.specs.PipPage.{bits}
 use Rattle.mg_pool.specs.Pool.{shown}
 use Rattle.mg_space.specs.FreePages.{HasFree, TellsFree}

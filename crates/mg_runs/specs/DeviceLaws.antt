@@ -10,7 +10,7 @@ use Rattle.mg_device.specs.Device.{PageWrite, Reaches, after_write, after_writes
 use Rattle.mg_device.specs.DeviceLaws.{reaches_none}
 use Rattle.mg_device.specs.Unordered.{LeftUnordered, pending_in, synced_in}
 use Rattle.mg_format.specs.Format.{IsUnmadeImage}
-use Rattle.mg_new_databases.specs.Soundness.{HasWholePages}
+use Rattle.mg_new_database_laws.specs.Soundness.{HasWholePages}
 use Rattle.mg_runs.specs.Entry.{of_new}
 use Rattle.mg_runs.specs.EntryLaws.{whole_of}
 use Rattle.mg_runs.specs.Laws.{ForcedIsEntry}

@@ -8,15 +8,15 @@ use Rattle.mg_base.specs.Moments.{LeavesOnly, joined, leaves_as}
 use Rattle.mg_base.specs.Streams.{SinkMeaning}
 use Rattle.mg_core.specs.Cores.{IsCore}
 use Rattle.mg_core.specs.declared.parts.Core.{Core}
-use Rattle.mg_engine_meaning.specs.Closings.{ClosesEngine, HasLeft, LeavesAll, RefusesClose}
-use Rattle.mg_engine_meaning.specs.NewBegins.{NewBegin}
-use Rattle.mg_engine_meaning.specs.Openings.{IsOpenedOver}
-use Rattle.mg_engine_meaning.specs.LawfulLaws.{left_of, opening_of}
-use Rattle.mg_engine_meaning.specs.Meaning.{Places, means_with_room}
-use Rattle.mg_engine_meaning.specs.Standings.{StandsFor}
-use Rattle.mg_grown_catalogs.specs.Grown.{OwnRowsAreNew}
+use Rattle.mg_engine_meaning_laws.specs.Closings.{ClosesEngine, HasLeft, LeavesAll, RefusesClose}
+use Rattle.mg_engine_meaning_laws.specs.NewBegins.{NewBegin}
+use Rattle.mg_engine_meaning_laws.specs.Openings.{IsOpenedOver}
+use Rattle.mg_engine_meaning_laws.specs.LawfulLaws.{left_of, opening_of}
+use Rattle.mg_engine_meaning_laws.specs.Meaning.{Places, means_with_room}
+use Rattle.mg_engine_meaning_laws.specs.Standings.{StandsFor}
+use Rattle.mg_grown_catalog_laws.specs.Grown.{OwnRowsAreNew}
 use Rattle.mg_image.specs.Form.{packed_form}
-use Rattle.mg_lasting.specs.Crashes.{HoldsAcknowledged, HoldsFrom, LeavesSince, asked}
+use Rattle.mg_lasting_laws.specs.Crashes.{HoldsAcknowledged, HoldsFrom, LeavesSince, asked}
 use Rattle.mg_model.specs.History.{Entries}
 use Rattle.mg_model.specs.Laws.{OpeningsBegin}
 use Rattle.mg_model.specs.Legal.{durable_count}

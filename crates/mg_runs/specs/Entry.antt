@@ -4,10 +4,10 @@ use Rattle.mg_base.specs.Disk.{Meaning}
 use Rattle.mg_base.specs.Geometry.{is_page_size}
 use Rattle.mg_base.specs.Image.{Image, page_at}
 use Rattle.mg_base.specs.declared.geometry.Geometry.{Geometry}
-use Rattle.mg_engine_meaning.specs.Openings.{BeginsWith, IsSettledOn, new_history}
+use Rattle.mg_engine_meaning_laws.specs.Openings.{BeginsWith, IsSettledOn, new_history}
 use Rattle.mg_format.specs.Format.{IsUnmadeImage}
 use Rattle.mg_model.specs.declared.opening.Opening.{Opening}
-use Rattle.mg_new_databases.specs.Soundness.{HasWholePages}
+use Rattle.mg_new_database_laws.specs.Soundness.{HasWholePages}
 use Rattle.mg_pip.specs.PipPage.{bits}
 use Rattle.mg_space.specs.FreePages.{HasFree}
 use Rattle.mg_space.specs.View.{Tells}

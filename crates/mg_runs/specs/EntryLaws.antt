@@ -8,19 +8,19 @@ use Rattle.mg_base.specs.FaultyDisk.{disk_of}
 use Rattle.mg_base.specs.MemDisk.{acts_in, mem_meaning, writes_of}
 use Rattle.mg_base.specs.declared.obeyed.Obeyed.{Obeyed}
 use Rattle.mg_base.specs.declared.geometry.TheConstants.{GREATEST_LIMIT}
-use Rattle.mg_engine_meaning.specs.Closings.{HasLeft}
-use Rattle.mg_engine_meaning.specs.ComposeLaws.{begins_with, goes_on_from, next_is}
-use Rattle.mg_grown_catalogs.specs.Grown.{CatalogGrows, OwnRowsAreNew}
+use Rattle.mg_engine_meaning_laws.specs.Closings.{HasLeft}
+use Rattle.mg_engine_meaning_laws.specs.ComposeLaws.{begins_with, goes_on_from, next_is}
+use Rattle.mg_grown_catalog_laws.specs.Grown.{CatalogGrows, OwnRowsAreNew}
 use Rattle.mg_image.specs.Form.{packed_form}
-use Rattle.mg_image_openings.specs.Begun.{begun}
-use Rattle.mg_image_openings.specs.Openings.{packed_fitting}
+use Rattle.mg_image_opening_laws.specs.Begun.{begun}
+use Rattle.mg_image_opening_laws.specs.Openings.{packed_fitting}
 use Rattle.mg_model.specs.History.{Entries}
 use Rattle.mg_model.specs.Laws.{OpeningsBegin}
-use Rattle.mg_lasting.specs.CrashLaws.{after_legal}
+use Rattle.mg_lasting_laws.specs.CrashLaws.{after_legal}
 use Rattle.mg_model.specs.Legal.{IsLegal, MayBegin, after_durable, durable_count}
 use Rattle.mg_records.specs.Needed.{pages_needed}
 use Rattle.mg_model.specs.declared.opening.Opening.{Opening}
-use Rattle.mg_new_databases.specs.Soundness.{HasWholePages, MemDisksAreWhole}
+use Rattle.mg_new_database_laws.specs.Soundness.{HasWholePages, MemDisksAreWhole}
 use Rattle.mg_space.specs.FreePages.{HasFree}
 use Rattle.mg_runs.specs.Entry.{TellsWholePages, of_new, of_sound, promising}
 use Rattle.mg_runs.specs.Headline.{HasEnded}

@@ -13,12 +13,12 @@ use Rattle.mg_database.specs.Preparing.{BecomesReady, FailsToPrepare, IsPrepared
 use Rattle.mg_database.specs.Loading.{IsLoadDamage}
 use Rattle.mg_database.specs.declared.fault.OpenFault.{OpenFault}
 use Rattle.mg_database.specs.declared.fault.OpenFault.TheVariants.{NotADatabase, Space}
-use Rattle.mg_engine_meaning.specs.Closings.{RefusesClose}
+use Rattle.mg_engine_meaning_laws.specs.Closings.{RefusesClose}
 use Rattle.mg_format.specs.Format.{IsUnmadeImage}
 use Rattle.mg_header.specs.HeaderPage.{reading}
 use Rattle.mg_header.specs.declared.header.HeadFault.TheVariants as heads
-use Rattle.mg_engine_meaning.specs.Openings.{IsNoJudgement}
-use Rattle.mg_engine_meaning.specs.Meaning.{Places, means_with_room}
+use Rattle.mg_engine_meaning_laws.specs.Openings.{IsNoJudgement}
+use Rattle.mg_engine_meaning_laws.specs.Meaning.{Places, means_with_room}
 use Rattle.mg_image.specs.Form.{Pages}
 use Rattle.mg_model.specs.declared.refusal.Refusal.{Refusal}
 use Rattle.mg_model.specs.declared.refusal.Refusal.TheVariants as refusals

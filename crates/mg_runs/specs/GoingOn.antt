@@ -4,9 +4,9 @@ use Rattle.mg_base.specs.Disk.{Meaning}
 use Rattle.mg_base.specs.Geometry.{is_page_size}
 use Rattle.mg_base.specs.Image.{Image, page_at}
 use Rattle.mg_base.specs.declared.geometry.TheConstants.{GREATEST_LIMIT}
-use Rattle.mg_engine_meaning.specs.Closings.{GoesOnFrom}
-use Rattle.mg_engine_meaning.specs.Openings.{IsSettledOn}
-use Rattle.mg_engine_meaning.specs.PlainTables.{EachIsPlain}
+use Rattle.mg_engine_meaning_laws.specs.Closings.{GoesOnFrom}
+use Rattle.mg_engine_meaning_laws.specs.Openings.{IsSettledOn}
+use Rattle.mg_engine_meaning_laws.specs.PlainTables.{EachIsPlain}
 use Rattle.mg_format.specs.Format.{IsUnmadeImage}
 use Rattle.mg_image.specs.Form.{Pages}
 use Rattle.mg_image.specs.Inventory.{state_at}

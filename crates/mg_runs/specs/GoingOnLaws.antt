@@ -5,19 +5,19 @@ use Rattle.std.proofs.lemmas.Bool.{cases_lt, false≢true}
 use Rattle.mg_base.specs.Disk.{Meaning}
 use Rattle.mg_base.specs.Image.{Image, page_at}
 use Rattle.mg_base.specs.declared.transaction.TxState.TheVariants.{Committed, Dead}
-use Rattle.mg_engine_meaning.specs.BlankLaws.{header_is_made}
-use Rattle.mg_engine_meaning.specs.Closings.{GoesOnFrom}
-use Rattle.mg_engine_meaning.specs.ComposeLaws.{begins_with, goes_on_from}
-use Rattle.mg_engine_meaning.specs.Openings.{new_history}
+use Rattle.mg_engine_meaning_laws.specs.BlankLaws.{header_is_made}
+use Rattle.mg_engine_meaning_laws.specs.Closings.{GoesOnFrom}
+use Rattle.mg_engine_meaning_laws.specs.ComposeLaws.{begins_with, goes_on_from}
+use Rattle.mg_engine_meaning_laws.specs.Openings.{new_history}
 use Rattle.mg_format.specs.Format.{IsUnmadeImage}
-use Rattle.mg_grown_catalogs.specs.Grown.{CatalogGrows, EachMakes, OwnRowsAreNew, columns_table, comes_with_table, key_text, last_makes, makes_alone, makes_of}
+use Rattle.mg_grown_catalog_laws.specs.Grown.{CatalogGrows, EachMakes, OwnRowsAreNew, columns_table, comes_with_table, key_text, last_makes, makes_alone, makes_of}
 use Rattle.mg_header.specs.declared.header.TheConstants.{GREATEST_NEXT}
 use Rattle.mg_image.specs.Form.{packed_form}
 use Rattle.mg_image.specs.Histories.{HoldsDurable, durable_committed}
 use Rattle.mg_image.specs.Opening.{Holds, IsNew, sound_image, unmade_image}
-use Rattle.mg_image_openings.specs.Begun.{begun}
-use Rattle.mg_image_openings.specs.Openings.{packed_fitting}
-use Rattle.mg_lasting.specs.Crashes.{HoldsFrom, asked, is_failed_write, may_last}
+use Rattle.mg_image_opening_laws.specs.Begun.{begun}
+use Rattle.mg_image_opening_laws.specs.Openings.{packed_fitting}
+use Rattle.mg_lasting_laws.specs.Crashes.{HoldsFrom, asked, is_failed_write, may_last}
 use Rattle.mg_model.specs.Answers.{is_committed}
 use Rattle.mg_model.specs.Catalog.{catalog_name}
 use Rattle.mg_model.specs.Changes.{same_name}

@@ -5,10 +5,10 @@ use Rattle.mg_base.specs.Image.{Image, page_at}
 use Rattle.mg_base.specs.Moments.{LeavesOnly}
 use Rattle.mg_base.specs.Streams.{SinkMeaning}
 use Rattle.mg_base.specs.declared.geometry.TheConstants.{GREATEST_LIMIT}
-use Rattle.mg_engine_meaning.specs.Closings.{GoesOnFrom, HasLeft}
-use Rattle.mg_engine_meaning.specs.Openings.{IsNoJudgement}
+use Rattle.mg_engine_meaning_laws.specs.Closings.{GoesOnFrom, HasLeft}
+use Rattle.mg_engine_meaning_laws.specs.Openings.{IsNoJudgement}
 use Rattle.mg_image.specs.Form.{packed_form}
-use Rattle.mg_lasting.specs.Crashes.{HoldsAcknowledged, HoldsFrom, asked}
+use Rattle.mg_lasting_laws.specs.Crashes.{HoldsAcknowledged, HoldsFrom, asked}
 use Rattle.mg_model.specs.declared.opening.Opening.{Opening}
 use Rattle.mg_model.specs.declared.refusal.Refusal.{Refusal}
 use Rattle.mg_model.specs.declared.refusal.Refusal.TheVariants.{DiskRead, DiskWrite, Memory, Offline}

@@ -13,11 +13,11 @@ use Rattle.mg_device.specs.MemDevice.{mem_device_meaning}
 use Rattle.mg_device.specs.declared.forced.ForcedWrites.{ForcedWrites}
 use Rattle.mg_device.specs.declared.mem_device.MemDevice.{MemDevice}
 use Rattle.mg_core.specs.declared.parts.Core.{Core}
-use Rattle.mg_engine_meaning.specs.Closings.{ClosesEngine}
-use Rattle.mg_engine_meaning.specs.FreePages.{CoreHasFree}
-use Rattle.mg_engine_meaning.specs.Openings.{BeginsWith, IsOpenedOver, RefusesOpening, new_history}
-use Rattle.mg_engine_meaning.specs.Meaning.{Places, means_with_room}
-use Rattle.mg_engine_meaning.specs.Standings.{StandsFor}
+use Rattle.mg_engine_meaning_laws.specs.Closings.{ClosesEngine}
+use Rattle.mg_engine_meaning_laws.specs.FreePages.{CoreHasFree}
+use Rattle.mg_engine_meaning_laws.specs.Openings.{BeginsWith, IsOpenedOver, RefusesOpening, new_history}
+use Rattle.mg_engine_meaning_laws.specs.Meaning.{Places, means_with_room}
+use Rattle.mg_engine_meaning_laws.specs.Standings.{StandsFor}
 use Rattle.mg_model.specs.Answers.{is_active}
 use Rattle.mg_model.specs.Machine.{state_of}
 use Rattle.mg_model.specs.declared.opening.Opening.{Opening}

@@ -8,7 +8,7 @@ use Rattle.mg_base.specs.Image.{Image, page_at, page_at-written_other, page_at-w
 use Rattle.mg_base.specs.MemDisk.{acts_in, writes_of}
 use Rattle.mg_base.specs.declared.mem_disk.MemDisk.{MemDisk}
 use Rattle.mg_base.specs.declared.obeyed.Obeyed.{Obeyed}
-use Rattle.mg_new_databases.specs.Soundness.{HasWholePages}
+use Rattle.mg_new_database_laws.specs.Soundness.{HasWholePages}
 
 -- ---- acts
 

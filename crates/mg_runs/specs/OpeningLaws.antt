@@ -6,17 +6,17 @@ use Rattle.mg_base.specs.Image.{Image, blank, page_at}
 use Rattle.mg_base.specs.Moments.{LeavesOnly}
 use Rattle.mg_base.specs.Streams.{SinkMeaning}
 use Rattle.mg_core.specs.declared.parts.Core.{Core}
-use Rattle.mg_engine_meaning.specs.BlankLaws.{header_is_made}
-use Rattle.mg_engine_meaning.specs.NewBegins.{NewBegin}
-use Rattle.mg_engine_meaning.specs.OpenedLaws.{content_leaves}
-use Rattle.mg_engine_meaning.specs.Openings.{BeginsWith, IsNoJudgement, IsOpenedOver, IsSettledOn, IsSoundImage, RefusesOpening, new_history}
+use Rattle.mg_engine_meaning_laws.specs.BlankLaws.{header_is_made}
+use Rattle.mg_engine_meaning_laws.specs.NewBegins.{NewBegin}
+use Rattle.mg_engine_meaning_laws.specs.OpenedLaws.{content_leaves}
+use Rattle.mg_engine_meaning_laws.specs.Openings.{BeginsWith, IsNoJudgement, IsOpenedOver, IsSettledOn, IsSoundImage, RefusesOpening, new_history}
 use Rattle.mg_format.specs.Format.{IsUnmadeImage, LeavesNew}
 use Rattle.mg_header.specs.declared.header.TheConstants.{GREATEST_NEXT}
 use Rattle.mg_image.specs.Form.{packed_coding, packed_form}
 use Rattle.mg_image.specs.HistoryLaws.{opened_holds, unmade_holds}
 use Rattle.mg_image.specs.Opening.{sound_image}
-use Rattle.mg_grown_catalogs.specs.Grown.{OwnRowsAreNew}
-use Rattle.mg_lasting.specs.Crashes.{HoldsFrom}
+use Rattle.mg_grown_catalog_laws.specs.Grown.{OwnRowsAreNew}
+use Rattle.mg_lasting_laws.specs.Crashes.{HoldsFrom}
 use Rattle.mg_model.specs.Laws.{OpeningsBegin}
 use Rattle.mg_model.specs.History.{Entries}
 use Rattle.mg_model.specs.declared.opening.Opening.{Opening}

@@ -5,8 +5,8 @@ use Rattle.mg_base.specs.Image.{Image, page_at}
 use Rattle.mg_base.specs.Streams.{SinkMeaning}
 use Rattle.mg_core.specs.declared.parts.Core.{Core}
 use Rattle.mg_database.specs.Tested.{IsTested}
-use Rattle.mg_engine_meaning.specs.OpenedLaws.{content_leaves}
-use Rattle.mg_engine_meaning.specs.Openings.{IsOpenedOver, RefusesOpening}
+use Rattle.mg_engine_meaning_laws.specs.OpenedLaws.{content_leaves}
+use Rattle.mg_engine_meaning_laws.specs.Openings.{IsOpenedOver, RefusesOpening}
 use Rattle.mg_format.specs.Format.{IsUnmadeImage}
 use Rattle.mg_header.specs.HeaderPage.{reading}
 use Rattle.mg_header.specs.declared.header.Header.{Header}

@@ -1,6 +1,6 @@
 -- What a history may begin with promises any number of pages that are free: nothing else of an opening speaks of them.
 use Rattle.std.specs.Prelude.{ℕ, []}
-use Rattle.mg_grown_catalogs.specs.Grown.{CatalogGrows}
+use Rattle.mg_grown_catalog_laws.specs.Grown.{CatalogGrows}
 use Rattle.mg_image.specs.Histories.{Begins}
 use Rattle.mg_image.specs.Opening.{Opened}
 use Rattle.mg_model.specs.Openings.{IsOpening}

@@ -9,8 +9,8 @@ use Rattle.mg_base.specs.declared.transaction.TxState.{TxState}
 use Rattle.mg_base.specs.declared.transaction.TxState.TheVariants.{Active, Committed, Dead, Limbo}
 use Rattle.mg_calls.specs.Frames.{Blames}
 use Rattle.mg_core.specs.declared.parts.Core.{Core}
-use Rattle.mg_engine_meaning.specs.Openings.{IsNoJudgement}
-use Rattle.mg_engine_meaning.specs.Meaning.{Places, means_with_room}
+use Rattle.mg_engine_meaning_laws.specs.Openings.{IsNoJudgement}
+use Rattle.mg_engine_meaning_laws.specs.Meaning.{Places, means_with_room}
 use Rattle.mg_faults.specs.Faults.{tells_failed_write, tells_fault}
 use Rattle.mg_model.specs.declared.answer.Answer.TheVariants as answers
 use Rattle.mg_model.specs.declared.event.Event.TheVariants as events

@@ -3,7 +3,7 @@ use Rattle.std.proofs.Common.{◌≡◌, ◌≤◌, ℕ, true, length, Some, ari
 use Rattle.mg_base.specs.Disk.{MayLeave, Meaning}
 use Rattle.mg_base.specs.Image.{Image}
 use Rattle.mg_device.specs.Growing.{NeverShrinks}
-use Rattle.mg_engine_meaning.specs.RefusalLaws.{AreCounted}
+use Rattle.mg_engine_meaning_laws.specs.RefusalLaws.{AreCounted}
 use Rattle.mg_pool.specs.Pool.{HasAtMost}
 
 -- a disk that tells what a crash may leave tells what it holds

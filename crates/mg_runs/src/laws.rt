@@ -1,16 +1,16 @@
 //! What the steps of a run give of its promise. Each function does nothing: its contract is the law.
 
-ghost use Rattle.mg_engine_meaning.specs.Meaning.{Places};
+ghost use Rattle.mg_engine_meaning_laws.specs.Meaning.{Places};
 ghost use Rattle.mg_runs.specs.Acknowledged.{LinesAreHeld};
 ghost use Rattle.mg_runs.specs.GoingOn.{FreeStays, LeftIsEntry};
 ghost use Rattle.mg_runs.specs.Laws.{AnyFreeBegins, BlankIsEntry, ClosingsFail, LinesFail, OpeningsAreJudged, OpeningsFail, OtherFilesAreRefused, OtherFilesAreUnopened, FaultyIsEntry, ForcedIsEntry, RunsBegin, RunsClose, RunsStop, SettledIsEntry};
 
 use mg_base::{Disk, Sink};
 use mg_device::GrowingDisk;
-use mg_engine_meaning::new_databases_begin;
-use mg_grown_catalogs::catalogs_grow;
+use mg_engine_meaning_laws::new_databases_begin;
+use mg_grown_catalog_laws::catalogs_grow;
 use mg_model::histories_go_on;
-use mg_new_databases::disks_in_memory_are_whole;
+use mg_new_database_laws::disks_in_memory_are_whole;
 
 /// A disk that was not opened: its history has no entry.
 pub fn openings_are_judged<D: GrowingDisk, K: Sink>()

@@ -9,7 +9,7 @@
 //! `EntryLaws`, `GoingOnLaws`, `PromisingLaws`, `WithinLaws` and `MemLaws` prove that.
 //!
 //! Invariant: none, it keeps no state.
-//! Below: `mg_scripts`, the lines of a script; `mg_engine_meaning`, the opening and closing of an engine; `mg_transcript`,
+//! Below: `mg_scripts`, the lines of a script; `mg_engine_meaning_laws`, the opening and closing of an engine; `mg_transcript`,
 //! the history of a script; `mg_run_ends`, how a run ends. Above: `mg_program`, whose calls keep these promises.
 //! Not here: where the words and the script come from.
 #![tactic(auto)]

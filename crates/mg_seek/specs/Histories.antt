@@ -6,15 +6,15 @@ use Rattle.mg_base.specs.declared.transaction.TxState.{TxState}
 use Rattle.mg_chain.specs.Bases.{StandsFor}
 use Rattle.mg_chain.specs.Views.{BaseIsTold}
 use Rattle.mg_heap.specs.Table.{IsTable}
-use Rattle.mg_generations.specs.Generations.{Generation, generation}
-use Rattle.mg_generations.specs.Kept.{IsErasedForAll, IsSeenByAll, StandFor}
+use Rattle.mg_generation_laws.specs.Generations.{Generation, generation}
+use Rattle.mg_generation_laws.specs.Kept.{IsErasedForAll, IsSeenByAll, StandFor}
 use Rattle.mg_image.specs.Form.{Pages, Row, packed_coding}
 use Rattle.mg_image.specs.Held.{told_row}
 use Rattle.mg_image.specs.RecordRules.{AreRecords, Facts, table_in}
 use Rattle.mg_image.specs.Records.{Reading, cells_of, record_key, writer}
 use Rattle.mg_image.specs.Tables.{Has}
 use Rattle.mg_image.specs.declared.entry.Entry.{Entry}
-use Rattle.mg_image_overlays.specs.records.Fronts.{is_dead, living}
+use Rattle.mg_image_overlay_laws.specs.records.Fronts.{is_dead, living}
 use Rattle.mg_model.specs.Answers.{is_active, obstacle, told}
 use Rattle.mg_model.specs.Changes.{row_at, same_row}
 use Rattle.mg_model.specs.History.{Entries}

@@ -7,15 +7,15 @@ use Rattle.mg_base.specs.declared.transaction.TxState.{TxState}
 use Rattle.mg_base.specs.declared.transaction.TxState.TheVariants.{Active, Limbo, Dead, Committed}
 use Rattle.mg_chain.specs.Chains.{takes_version}
 use Rattle.mg_chain.specs.Views.{BaseIsTold, first_entry, is_dead as is_dead_version}
-use Rattle.mg_generations.specs.Generations.{Generation, newest_writer_if, shown_by, sees as sees_told}
-use Rattle.mg_generations.specs.Laws.{ChainsShowViews, ChainsTellObstacles}
+use Rattle.mg_generation_laws.specs.Generations.{Generation, newest_writer_if, shown_by, sees as sees_told}
+use Rattle.mg_generation_laws.specs.Laws.{ChainsShowViews, ChainsTellObstacles}
 use Rattle.mg_image.specs.Form.{Pages, Row, packed_coding}
 use Rattle.mg_image.specs.Held.{told_row}
 use Rattle.mg_image.specs.ReadingLaws.{RowsAreOne}
 use Rattle.mg_image.specs.RecordRules.{Each, EachBack, Facts}
 use Rattle.mg_image.specs.Records.{Reading, shown, writer}
 use Rattle.mg_image.specs.declared.entry.Entry.{Entry}
-use Rattle.mg_image_overlays.specs.records.Fronts.{is_dead, living}
+use Rattle.mg_image_overlay_laws.specs.records.Fronts.{is_dead, living}
 use Rattle.mg_model.specs.Answers.{can_hinder, is_active, is_committed, is_open, told}
 use Rattle.mg_model.specs.History.{Entries}
 use Rattle.mg_model.specs.Machine.{state_of}

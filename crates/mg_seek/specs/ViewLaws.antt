@@ -4,9 +4,9 @@ use Rattle.std.specs.Prelude.{◌≢◌, IsPermutation}
 use Rattle.mg_base.specs.declared.numbers.RecId.{RecId}
 use Rattle.mg_chain.specs.Chains.{newest_link, takes_version}
 use Rattle.mg_chain.specs.Views.{BaseIsTold}
-use Rattle.mg_generations.specs.Generations.{Generation, shown_by, sees as sees_told}
-use Rattle.mg_generations.specs.Kept.{IsErasedForAll}
-use Rattle.mg_generations.specs.Laws.{ChainsShowViews}
+use Rattle.mg_generation_laws.specs.Generations.{Generation, shown_by, sees as sees_told}
+use Rattle.mg_generation_laws.specs.Kept.{IsErasedForAll}
+use Rattle.mg_generation_laws.specs.Laws.{ChainsShowViews}
 use Rattle.mg_heap.specs.Walk.{is_primary}
 use Rattle.mg_image.specs.Form.{Pages, Row, packed_coding}
 use Rattle.mg_image.specs.Held.{told_row}

@@ -5,7 +5,7 @@ ghost use Rattle.mg_seek.specs.Histories.{NothingIsThere, ObstaclesAreTold, Rows
 ghost use Rattle.mg_seek.specs.Readings.{KeysOfReadings, ObstaclesOfReadings, PlacesOfReadings, RowsOfReadings, SpeakersOfReadings};
 ghost use Rattle.mg_seek.specs.Walks.{WalksInOrder, WalksShowViews};
 
-use mg_generations::{chains_tell, garbage_may_go};
+use mg_generation_laws::{chains_tell, garbage_may_go};
 use mg_image::one_reading;
 use mg_snap::a_new_base_sees_what_has_ended;
 

@@ -24,7 +24,7 @@ use Rattle.mg_transcript.specs.OwnEventLaws.{runs_own}
 use Rattle.mg_transcript.specs.Shorthand.{Gets, GivesUp, IsGot, Settles, fails_test, reads_it, tests_not, value_of_key}
 use Rattle.mg_transcript.specs.Statements.{fault_of, fault_seen, selects, table_of}
 use Rattle.mg_transcript.specs.Steps.{Steps, Follows, answers_so, writes_so, has_fault, falls_short, visits, stops, faults, finds, finds_not, inserts, inserts_not, makes, makes_not, saves, goes_back, goes_nowhere, goes_not, writes_on, makes_on, writes_page, writes_no_page, commits, Runs, waits_now, ends_now, one_step}
-use Rattle.mg_exec_courses.specs.Courses.{IsOutsideFault}
+use Rattle.mg_exec_course_laws.specs.Courses.{IsOutsideFault}
 use Rattle.mg_courses.specs.declared.statements.Stepped.{Stepped}
 use Rattle.mg_courses.specs.declared.statements.Stepped.TheVariants.{More, Waits, Ended}
 use Rattle.mg_courses.specs.declared.work.Work.{Work}

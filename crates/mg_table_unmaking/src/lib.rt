@@ -11,7 +11,7 @@
 //! Invariant: none, it keeps no state.
 //! Below: `mg_chain` for records, `mg_seek` for who speaks for a key, `mg_batches` for what a batch owes. Above: the way
 //! back to a point, which takes back the keys of all other tables first, and then one row after another.
-//! Not here: which keys, that they are of whole tables, and what comes of histories and crashes (`mg_engine_steps`).
+//! Not here: which keys, that they are of whole tables, and what comes of histories and crashes (`mg_engine_step_laws`).
 #![tactic(auto)]
 
 mod rows;

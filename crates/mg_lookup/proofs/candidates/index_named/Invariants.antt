@@ -1,6 +1,6 @@
 -- The indexes that are left decide.
 use Rattle.std.proofs.Common.{◌≡◌, drop}
-use Rattle.mg_key_entries.specs.KeptEntries.{primary_in}
+use Rattle.mg_key_entry_laws.specs.KeptEntries.{primary_in}
 use Rattle.mg_lookup.proofs.candidates.index_named.Given as goal
 
 abbrev pub invariant-loop-index : goal.invariant-loop-index

@@ -3,8 +3,8 @@ use Rattle.mg_engine.specs.Places.{places}
 use Rattle.mg_engine.proofs.EveryLemmas.{every_apart, every_collected, every_nobodys, every_unpaged}
 use Rattle.mg_engine.proofs.RoomLemmas.{reads_room}
 use Rattle.mg_engine.proofs.ToldLemmas.{room_as, told_as, undamaged_as}
-use Rattle.mg_engine_meaning.specs.Meaning.{means}
-use Rattle.mg_no_damage.specs.AlikeRoom.{quietly_with, room_with, sessions_with, undamaged_with}
+use Rattle.mg_engine_meaning_laws.specs.Meaning.{means}
+use Rattle.mg_no_damage_laws.specs.AlikeRoom.{quietly_with, room_with, sessions_with, undamaged_with}
 use Rattle.mg_engine.proofs.collecting.EngineCollects.collect_all.Goals as goal
 
 pub invariant_of-self : goal.invariant_of-self

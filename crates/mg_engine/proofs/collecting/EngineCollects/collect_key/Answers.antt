@@ -5,8 +5,8 @@ use Rattle.mg_engine.proofs.KeyCollectLemmas.{beside_as, key_collected_apart, ke
 use Rattle.mg_engine.proofs.ReadLemmas.{may_scan}
 use Rattle.mg_engine.proofs.RoomLemmas.{reads_room}
 use Rattle.mg_engine.proofs.ToldLemmas.{room_as, told_as, undamaged_as}
-use Rattle.mg_engine_meaning.specs.Meaning.{means}
-use Rattle.mg_no_damage.specs.AlikeRoom.{quietly_with, room_with, sessions_with, undamaged_with}
+use Rattle.mg_engine_meaning_laws.specs.Meaning.{means}
+use Rattle.mg_no_damage_laws.specs.AlikeRoom.{quietly_with, room_with, sessions_with, undamaged_with}
 use Rattle.mg_engine.proofs.collecting.EngineCollects.collect_key.Goals as goal
 
 pub collect_at_key-requires-clause-given : goal.collect_at_key-requires-clause-given

@@ -5,8 +5,8 @@ use Rattle.mg_engine.proofs.CollectLemmas.{collected_apart, collects_as, given_a
 use Rattle.mg_engine.proofs.ReadLemmas.{may_scan}
 use Rattle.mg_engine.proofs.RoomLemmas.{reads_room}
 use Rattle.mg_engine.proofs.ToldLemmas.{room_as, told_as, undamaged_as}
-use Rattle.mg_engine_meaning.specs.Meaning.{means}
-use Rattle.mg_no_damage.specs.AlikeRoom.{quietly_with, room_with, sessions_with, undamaged_with}
+use Rattle.mg_engine_meaning_laws.specs.Meaning.{means}
+use Rattle.mg_no_damage_laws.specs.AlikeRoom.{quietly_with, room_with, sessions_with, undamaged_with}
 use Rattle.mg_engine.proofs.collecting.EngineCollects.collect_place.Goals as goal
 
 pub collect_place-requires-clause-may : goal.collect_place-requires-clause-may

@@ -1,7 +1,7 @@
 use Rattle.std.proofs.Common.{subst}
 use Rattle.mg_core.specs.declared.parts.Core.{Core}
 use Rattle.mg_core.specs.Cores.{IsCore}
-use Rattle.mg_engine_meaning.specs.Closings.{ClosesEngine}
+use Rattle.mg_engine_meaning_laws.specs.Closings.{ClosesEngine}
 use Rattle.mg_engine.proofs.engine.Engine.close.Goals as goal
 
 pub close-requires : goal.close-requires

@@ -1,5 +1,5 @@
 use Rattle.std.proofs.Common.{Ok, subst, sym}
-use Rattle.mg_engine_meaning.specs.Openings.{IsOpenedOver, OpensEngine}
+use Rattle.mg_engine_meaning_laws.specs.Openings.{IsOpenedOver, OpensEngine}
 use Rattle.mg_works.specs.Works.{AreApart}
 use Rattle.mg_engine.proofs.engine.Engine.open_with.Goals as goal
 

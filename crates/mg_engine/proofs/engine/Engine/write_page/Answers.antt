@@ -7,8 +7,8 @@ use Rattle.mg_engine.proofs.BeginLemmas.{pages_apart, pages_as}
 use Rattle.mg_engine.proofs.AskedLemmas.{written_as}
 use Rattle.mg_engine.proofs.ToldLemmas.{room_as, told_as, undamaged_as}
 use Rattle.mg_engine.proofs.RoomLemmas.{reads_room}
-use Rattle.mg_engine_meaning.specs.Meaning.{means}
-use Rattle.mg_no_damage.specs.AlikeRoom.{quietly_with, room_with, sessions_with, undamaged_with}
+use Rattle.mg_engine_meaning_laws.specs.Meaning.{means}
+use Rattle.mg_no_damage_laws.specs.AlikeRoom.{quietly_with, room_with, sessions_with, undamaged_with}
 use Rattle.mg_engine.proofs.engine.Engine.write_page.Goals as goal
 
 pub invariant_of-self : goal.invariant_of-self

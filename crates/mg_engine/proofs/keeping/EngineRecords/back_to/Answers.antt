@@ -4,8 +4,8 @@ use Rattle.mg_engine.proofs.ToldLemmas.{room_back_as, told_as, undamaged_as}
 use Rattle.mg_model.specs.declared.change.Point.TheVariants.{SavepointNamed}
 use Rattle.mg_records.specs.Keeping.{refusal_in}
 use Rattle.mg_engine.proofs.RoomLemmas.{goes_room}
-use Rattle.mg_engine_meaning.specs.Meaning.{means}
-use Rattle.mg_no_damage.specs.AlikeRoom.{back_with, leaves_with, quietly_with, sessions_with, undamaged_with}
+use Rattle.mg_engine_meaning_laws.specs.Meaning.{means}
+use Rattle.mg_no_damage_laws.specs.AlikeRoom.{back_with, leaves_with, quietly_with, sessions_with, undamaged_with}
 use Rattle.mg_engine.proofs.keeping.EngineRecords.back_to.Goals as goal
 
 pub take_to_savepoint-requires-clause-engine : goal.take_to_savepoint-requires-clause-engine

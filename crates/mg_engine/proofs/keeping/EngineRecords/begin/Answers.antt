@@ -7,8 +7,8 @@ use Rattle.mg_records.specs.Room.{pages_of_begin}
 use Rattle.mg_engine.proofs.BeginLemmas.{begins_apart, begins_as}
 use Rattle.mg_engine.proofs.ToldLemmas.{room_as, told_as, undamaged_as}
 use Rattle.mg_engine.proofs.RoomLemmas.{numbers_room}
-use Rattle.mg_engine_meaning.specs.Meaning.{means}
-use Rattle.mg_no_damage.specs.AlikeRoom.{leaves_with, quietly_with, room_with, sessions_with, undamaged_with}
+use Rattle.mg_engine_meaning_laws.specs.Meaning.{means}
+use Rattle.mg_no_damage_laws.specs.AlikeRoom.{leaves_with, quietly_with, room_with, sessions_with, undamaged_with}
 use Rattle.mg_model.specs.declared.event.Event.TheVariants.{Begin}
 use Rattle.mg_engine.proofs.keeping.EngineRecords.begin.Goals as goal
 

@@ -4,8 +4,8 @@ use Rattle.mg_engine.proofs.EngineLemmas.{steps_as, steps_one}
 use Rattle.mg_engine.proofs.AskedLemmas.{written_as}
 use Rattle.mg_engine.proofs.ToldLemmas.{room_as, told_as, undamaged_as}
 use Rattle.mg_engine.proofs.RoomLemmas.{reads_room}
-use Rattle.mg_engine_meaning.specs.Meaning.{means}
-use Rattle.mg_no_damage.specs.AlikeRoom.{answers_with, quietly_with, room_with, sessions_with, undamaged_with, written_with}
+use Rattle.mg_engine_meaning_laws.specs.Meaning.{means}
+use Rattle.mg_no_damage_laws.specs.AlikeRoom.{answers_with, quietly_with, room_with, sessions_with, undamaged_with, written_with}
 use Rattle.mg_engine.proofs.keeping.EngineRecords.commit_step.Goals as goal
 
 pub returns-clause-reads : goal.returns-clause-reads

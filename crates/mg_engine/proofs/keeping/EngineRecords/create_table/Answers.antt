@@ -3,8 +3,8 @@ use Rattle.mg_records.specs.Keeping.{refusal_in}
 use Rattle.mg_engine.proofs.MakingLemmas.{makes_apart, makes_as, makes_room, makes_undamaged}
 use Rattle.mg_engine.proofs.ToldLemmas.{told_as}
 use Rattle.mg_engine.proofs.RoomLemmas.{makes_table_room}
-use Rattle.mg_engine_meaning.specs.Meaning.{means}
-use Rattle.mg_no_damage.specs.AlikeRoom.{leaves_with, quietly_with, room_with, sessions_with, undamaged_with}
+use Rattle.mg_engine_meaning_laws.specs.Meaning.{means}
+use Rattle.mg_no_damage_laws.specs.AlikeRoom.{leaves_with, quietly_with, room_with, sessions_with, undamaged_with}
 use Rattle.mg_engine.proofs.keeping.EngineRecords.create_table.Goals as goal
 
 pub invariant_of-self : goal.invariant_of-self

@@ -6,8 +6,8 @@ use Rattle.mg_engine.proofs.EngineLemmas.{savepoints_as}
 use Rattle.mg_engine.proofs.AskedLemmas.{unwritten_as}
 use Rattle.mg_engine.proofs.ToldLemmas.{room_as, told_as, undamaged_as}
 use Rattle.mg_engine.proofs.RoomLemmas.{gives_room}
-use Rattle.mg_engine_meaning.specs.Meaning.{means}
-use Rattle.mg_no_damage.specs.AlikeRoom.{leaves_with, quietly_with, room_with, sessions_with, undamaged_with}
+use Rattle.mg_engine_meaning_laws.specs.Meaning.{means}
+use Rattle.mg_no_damage_laws.specs.AlikeRoom.{leaves_with, quietly_with, room_with, sessions_with, undamaged_with}
 use Rattle.mg_model.specs.declared.event.Event.TheVariants.{Savepoint}
 use Rattle.mg_engine.proofs.keeping.EngineRecords.savepoint.Goals as goal
 

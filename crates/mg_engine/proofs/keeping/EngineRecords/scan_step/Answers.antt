@@ -5,8 +5,8 @@ use Rattle.mg_engine.proofs.ReadLemmas.{may_scan, scans_apart, scans_fit, still_
 use Rattle.mg_engine.proofs.AskedLemmas.{unwritten_as}
 use Rattle.mg_engine.proofs.ToldLemmas.{room_as, told_as}
 use Rattle.mg_engine.proofs.RoomLemmas.{reads_room}
-use Rattle.mg_engine_meaning.specs.Meaning.{means}
-use Rattle.mg_no_damage.specs.AlikeRoom.{answers_with, nears_with, quietly_with, room_with, sessions_with, undamaged_with, visits_with}
+use Rattle.mg_engine_meaning_laws.specs.Meaning.{means}
+use Rattle.mg_no_damage_laws.specs.AlikeRoom.{answers_with, nears_with, quietly_with, room_with, sessions_with, undamaged_with, visits_with}
 use Rattle.mg_engine.proofs.keeping.EngineRecords.scan_step.Goals as goal
 
 pub scan_step-visited-requires-clause-may : goal.scan_step-visited-requires-clause-may

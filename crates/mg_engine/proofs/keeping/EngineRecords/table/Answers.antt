@@ -4,8 +4,8 @@ use Rattle.mg_engine.proofs.ReadLemmas.{table_apart, tables_as}
 use Rattle.mg_engine.proofs.AskedLemmas.{unwritten_as}
 use Rattle.mg_engine.proofs.ToldLemmas.{room_as, told_as, undamaged_as}
 use Rattle.mg_engine.proofs.RoomLemmas.{reads_room}
-use Rattle.mg_engine_meaning.specs.Meaning.{means}
-use Rattle.mg_no_damage.specs.AlikeRoom.{given_with, quietly_with, room_with, sessions_with, table_with, undamaged_with}
+use Rattle.mg_engine_meaning_laws.specs.Meaning.{means}
+use Rattle.mg_no_damage_laws.specs.AlikeRoom.{given_with, quietly_with, room_with, sessions_with, table_with, undamaged_with}
 use Rattle.mg_engine.proofs.keeping.EngineRecords.table.Goals as goal
 
 pub invariant_of-self : goal.invariant_of-self

@@ -6,10 +6,10 @@ use Rattle.mg_engine.proofs.ReadLemmas.{may_scan}
 use Rattle.mg_engine.proofs.WriteLemmas.{changes_as, gives_as}
 use Rattle.mg_engine.proofs.ToldLemmas.{room_as, told_as, undamaged_as}
 use Rattle.mg_engine.proofs.RoomLemmas.{gives_room}
-use Rattle.mg_engine_meaning.specs.Meaning.{means}
-use Rattle.mg_no_damage.specs.AlikeRoom.{leaves_with, quietly_with, room_with, sessions_with, undamaged_with}
+use Rattle.mg_engine_meaning_laws.specs.Meaning.{means}
+use Rattle.mg_no_damage_laws.specs.AlikeRoom.{leaves_with, quietly_with, room_with, sessions_with, undamaged_with}
 use Rattle.mg_records.specs.Adding.{fine_or}
-use Rattle.mg_no_damage.specs.WithRoom.{write_least, write_takes}
+use Rattle.mg_no_damage_laws.specs.WithRoom.{write_least, write_takes}
 use Rattle.mg_records.specs.Writing.{event_of}
 use Rattle.mg_engine.proofs.keeping.EngineRecords.write_step.Goals as goal
 

@@ -5,8 +5,8 @@ use Rattle.mg_engine.proofs.KeyedLemmas.{finds_with, gives_as, keyed_with, keys_
 use Rattle.mg_engine.proofs.ReadLemmas.{may_scan}
 use Rattle.mg_engine.proofs.ToldLemmas.{room_as, told_as, undamaged_as}
 use Rattle.mg_engine.proofs.RoomLemmas.{reads_room}
-use Rattle.mg_engine_meaning.specs.Meaning.{means}
-use Rattle.mg_no_damage.specs.AlikeRoom.{answers_with, quietly_with, room_with, sessions_with, undamaged_with}
+use Rattle.mg_engine_meaning_laws.specs.Meaning.{means}
+use Rattle.mg_no_damage_laws.specs.AlikeRoom.{answers_with, quietly_with, room_with, sessions_with, undamaged_with}
 use Rattle.std.proofs.Common.{refl}
 use Rattle.mg_engine.proofs.keyed.EngineKeyed.row_with_key.Goals as goal
 

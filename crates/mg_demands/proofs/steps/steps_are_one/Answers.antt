@@ -1,6 +1,0 @@
-use Rattle.mg_demands.proofs.steps.steps_are_one.Goals as goal
-use Rattle.mg_demands.specs.WantingLaws.{two_pay}
-
-pub returns : goal.returns
-returns c = λ size old mid new orders settled on_disk wanted more most first second.
-    two_pay size old mid new orders settled on_disk wanted more most first second

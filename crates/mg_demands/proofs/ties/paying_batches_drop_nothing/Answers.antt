@@ -1,5 +1,0 @@
-use Rattle.mg_demands.specs.Alone.{paying_drops_nothing}
-use Rattle.mg_demands.proofs.ties.paying_batches_drop_nothing.Goals as goal
-
-pub returns : goal.returns
-returns c = paying_drops_nothing

@@ -1,5 +1,0 @@
-use Rattle.mg_demands.specs.TableTies.{tables_are_wanted as wanted}
-use Rattle.mg_demands.proofs.ties.tables_are_wanted.Goals as goal
-
-pub returns : goal.returns
-returns c = wanted

@@ -1,5 +1,0 @@
-use Rattle.mg_demands.specs.RowTies.{tree_rows_pay as pays}
-use Rattle.mg_demands.proofs.tree_steps.tree_rows_pay.Goals as goal
-
-pub returns : goal.returns
-returns c = pays

@@ -1,0 +1,28 @@
+-- Each table has the data pages that it had, in their order, and more, while a transaction is taken back.
+use Rattle.std.specs.Prelude.{ℕ, List}
+use Rattle.mg_base.specs.Disk.{Meaning}
+use Rattle.mg_base.specs.Image.{Image}
+use Rattle.mg_engine_step_laws.specs.backs.Midway.{GoesBack}
+use Rattle.mg_engine_change_laws.specs.keys.TakingSteps.{StandsMidway, TakesKeysOf}
+use Rattle.mg_image.specs.Form.{Pages, packed_form}
+use Rattle.mg_image.specs.Tables.{stands_of}
+use Rattle.mg_image_overlay_laws.specs.kept.KeptImages.{AreFrontStands}
+use Rattle.mg_model.specs.History.{Entries, Entry}
+use Rattle.mg_model.specs.Legal.{IsLegal, MayBegin}
+use Rattle.mg_model.specs.declared.change.Change.{Change}
+use Rattle.mg_model.specs.declared.change.Point.{Point}
+use Rattle.mg_model.specs.declared.opening.Opening.{Opening}
+use Rattle.mg_pool.specs.declared.pool.Pool.{Pool}
+use Rattle.mg_pool_overlay_laws.specs.Needs.{Asked, Sessions}
+use Rattle.mg_engine_step_laws.specs.standing.Standing.{Remembers, ShowsHistory, Standing}
+
+-- over any number of keys
+abbrev pub KeysKeepPages : (D L : Type 0) → Meaning D → Type 0
+KeysKeepPages D L m = (size : ℕ) (o : Opening) (h : Entries) (e : Entry) (point : Point) (s : Standing)
+    (start before after : Pool D L) (begun : Pages) (first : ShowsHistory packed_form size o h s begun) (i j : Image)
+    (asked : Asked) (session : Sessions) (t : ℕ) (whole left rest keys : List Change) → MayBegin o → IsLegal o h
+    → Remembers o h s → GoesBack o h e point s asked t
+    → TakesKeysOf m size o h e t s first.versions.speaker keys left rest before after i j
+    → (midway : StandsMidway m size o h e t whole left s start before begun first i asked session)
+    → (then_ : StandsMidway m size o h e t whole rest s start after begun first j asked session)
+    → AreFrontStands (stands_of midway.pages.layout) (stands_of then_.pages.layout)

@@ -1,5 +1,0 @@
-use Rattle.mg_engine_changes.specs.faults.FaultCallLaws.{begins_tell}
-use Rattle.mg_engine_changes.proofs.faults.begins_tell_faults.Goals as goal
-
-pub returns : goal.returns
-returns g c = begins_tell g.D.Disk.meaning

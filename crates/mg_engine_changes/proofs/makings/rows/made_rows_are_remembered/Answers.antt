@@ -1,5 +1,0 @@
-use Rattle.mg_engine_changes.specs.tables.RememberingLaws.{rows_are_remembered}
-use Rattle.mg_engine_changes.proofs.makings.rows.made_rows_are_remembered.Goals as goal
-
-pub returns : goal.returns
-returns c = rows_are_remembered c.the_list_follows_the_machine.ensures.kept c.memory_follows.ensures.follows

@@ -1,5 +1,0 @@
-use Rattle.mg_engine_changes.specs.tables.SeenLaws.{made_are_seen}
-use Rattle.mg_engine_changes.proofs.makings.rows.made_tables_are_seen.Goals as goal
-
-pub returns : goal.returns
-returns c = made_are_seen

@@ -1,6 +1,0 @@
-use Rattle.mg_engine_changes.specs.tables_back.OverOutcomesLaws.{refusals_give_over}
-use Rattle.mg_engine_changes.proofs.over_tables.outcomes.refusals_give_over.Goals as goal
-
-pub returns : goal.returns
-returns g c = refusals_give_over g.D.Disk.meaning c.backs_are_known.ensures c.rows_are_given.ensures.apart
-    c.rows_go_on.ensures

@@ -1,5 +1,0 @@
-use Rattle.mg_engine_changes.specs.rows.RowWalksLaws.{row_walks_go_on}
-use Rattle.mg_engine_changes.proofs.row_writes.walks.row_walks_go_on.Goals as goal
-
-pub returns : goal.returns
-returns c = row_walks_go_on

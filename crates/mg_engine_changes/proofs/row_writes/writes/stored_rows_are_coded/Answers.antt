@@ -1,5 +1,0 @@
-use Rattle.mg_engine_changes.specs.rows.CodeLaws as laws
-use Rattle.mg_engine_changes.proofs.row_writes.writes.stored_rows_are_coded.Goals as goal
-
-pub returns : goal.returns
-returns c = laws.stored_rows_are_coded

@@ -1,5 +1,0 @@
-use Rattle.mg_engine_changes.specs.rows.WayLaws as laws
-use Rattle.mg_engine_changes.proofs.row_writes.writes.ways_are_free.Goals as goal
-
-pub returns : goal.returns
-returns c = laws.ways_are_free c.records_are_free.ensures

@@ -1,5 +1,0 @@
-use Rattle.mg_engine_changes.specs.keys.BackTablesLaws.{its_tables_may_be_written}
-use Rattle.mg_engine_changes.proofs.takings.keys.its_tables_may_be_written.Goals as goal
-
-pub returns : goal.returns
-returns c = its_tables_may_be_written c.one_reading.ensures.packed_rows c.names_tell_tables.ensures

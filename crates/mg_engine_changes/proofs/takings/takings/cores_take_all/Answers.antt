@@ -1,6 +1,0 @@
-use Rattle.mg_engine_changes.specs.keys.KeysLaws.{cores_take_all}
-use Rattle.mg_engine_changes.proofs.takings.takings.cores_take_all.Goals as goal
-
-pub returns : goal.returns
-returns g c = cores_take_all g.D.Disk.meaning c.cores_take_keys.ensures c.keys_are_taken.ensures.keys
-    c.keys_go_on.ensures c.keys_keep_lists.ensures

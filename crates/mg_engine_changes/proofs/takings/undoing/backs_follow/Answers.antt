@@ -1,5 +1,0 @@
-use Rattle.mg_engine_changes.specs.backs.MemoryLaws.{backs_follow}
-use Rattle.mg_engine_changes.proofs.takings.undoing.backs_follow.Goals as goal
-
-pub returns : goal.returns
-returns c = backs_follow c.the_list_follows_the_machine.ensures.back c.keys_are_taken.ensures.since

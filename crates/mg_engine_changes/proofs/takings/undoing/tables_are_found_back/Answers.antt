@@ -1,5 +1,0 @@
-use Rattle.mg_engine_changes.specs.backs.BackFindsLaws.{back_finds}
-use Rattle.mg_engine_changes.proofs.takings.undoing.tables_are_found_back.Goals as goal
-
-pub returns : goal.returns
-returns c = back_finds c.sound_images_stand_one_way.ensures c.memory_follows.ensures.tables

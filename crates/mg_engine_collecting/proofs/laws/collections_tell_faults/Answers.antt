@@ -1,5 +1,0 @@
-use Rattle.mg_engine_collecting.specs.PlaceTells.{collections_tell}
-use Rattle.mg_engine_collecting.proofs.laws.collections_tell_faults.Goals as goal
-
-pub returns : goal.returns
-returns g c = collections_tell g.row.D.Denot g.D.Disk.meaning

@@ -1,5 +1,0 @@
-use Rattle.mg_engine_demands.specs.TableLaws.{tables_go}
-use Rattle.mg_engine_demands.proofs.calls.tables_are_made.Goals as goal
-
-pub returns : goal.returns
-returns g c = tables_go g.row.D.Denot g.D.Disk.meaning c.tables_go.ensures.growths c.tables_go.ensures.makings

@@ -1,8 +1,0 @@
-use Rattle.mg_engine_demands.specs.MakingLaws.{growths_go, makings_go}
-use Rattle.mg_engine_demands.proofs.runs.tables_go.Goals as goal
-
-pub returns-clause-growths : goal.returns-clause-growths
-returns-clause-growths g c = growths_go g.row.D.Denot g.D.Disk.meaning
-
-pub returns-clause-makings : goal.returns-clause-makings
-returns-clause-makings g c = makings_go g.row.D.Denot g.D.Disk.meaning

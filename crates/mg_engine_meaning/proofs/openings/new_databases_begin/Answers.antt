@@ -1,6 +1,0 @@
-use Rattle.mg_engine_meaning.specs.NewBeginLaws.{new_begin}
-use Rattle.mg_engine_meaning.proofs.openings.new_databases_begin.Goals as goal
-
-pub returns : goal.returns
-returns c = new_begin c.new_databases_are_sound.ensures.sound c.new_databases_are_sound.ensures.opened
-    c.sound_images_stand_one_way.ensures

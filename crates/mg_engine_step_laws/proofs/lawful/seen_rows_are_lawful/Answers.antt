@@ -1,0 +1,7 @@
+use Rattle.mg_engine_step_laws.specs.tables.LawfulLaws.{seen_rows_are_lawful}
+use Rattle.mg_engine_step_laws.proofs.lawful.seen_rows_are_lawful.Goals as goal
+
+pub returns : goal.returns
+returns c = seen_rows_are_lawful c.records_are_those_of_every_reading.ensures.rows c.keys_are_answered.ensures.rows
+    c.keys_are_answered.ensures.nothing c.newest_are_seen.ensures c.chains_tell.ensures.database
+    c.chains_go_on.ensures c.catalogs_grow.ensures.own c.catalogs_grow.ensures.within

@@ -1,0 +1,7 @@
+use Rattle.mg_image.specs.Form.{packed_form}
+use Rattle.mg_engine_step_laws.specs.writes.FirstLaws.{firsts_go_on}
+use Rattle.mg_engine_step_laws.proofs.writes.firsts_go_on.Goals as goal
+
+pub returns : goal.returns
+returns g c = firsts_go_on packed_form g.row.D.Denot g.row.L.Denot g.D.Disk.meaning
+    c.one_reading.ensures.packed_rows (λ page n is. is) c.histories_go_on.ensures.begins c.writes_go_on.ensures

@@ -1,5 +1,0 @@
-use Rattle.mg_engine_steps.specs.tables_back.ShapesLeftLaws.{shapes_left}
-use Rattle.mg_engine_steps.proofs.histories.left_tables_are_seen.Goals as goal
-
-pub returns : goal.returns
-returns c = shapes_left c.catalogs_grow.ensures.within c.catalogs_grow.ensures.own

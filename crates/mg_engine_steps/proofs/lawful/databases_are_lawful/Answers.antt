@@ -1,5 +1,0 @@
-use Rattle.mg_engine_steps.specs.tables.LawfulLaws.{databases_are_lawful}
-use Rattle.mg_engine_steps.proofs.lawful.databases_are_lawful.Goals as goal
-
-pub returns : goal.returns
-returns c = databases_are_lawful c.chains_tell.ensures.database

@@ -1,7 +1,0 @@
-use Rattle.mg_engine_steps.specs.tables.LawfulLaws.{seen_rows_are_lawful}
-use Rattle.mg_engine_steps.proofs.lawful.seen_rows_are_lawful.Goals as goal
-
-pub returns : goal.returns
-returns c = seen_rows_are_lawful c.records_are_those_of_every_reading.ensures.rows c.keys_are_answered.ensures.rows
-    c.keys_are_answered.ensures.nothing c.newest_are_seen.ensures c.chains_tell.ensures.database
-    c.chains_go_on.ensures c.catalogs_grow.ensures.own c.catalogs_grow.ensures.within

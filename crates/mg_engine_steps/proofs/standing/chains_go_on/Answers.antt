@@ -1,6 +1,0 @@
-use Rattle.mg_engine_steps.specs.standing.ChainLaws.{stand_goes_on}
-use Rattle.mg_engine_steps.proofs.standing.chains_go_on.Goals as goal
-
-pub returns : goal.returns
-returns c = λ o h e table key chain opening legal stand.
-    stand_goes_on o opening h e legal table key chain stand

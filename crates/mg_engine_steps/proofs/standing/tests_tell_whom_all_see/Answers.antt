@@ -1,5 +1,0 @@
-use Rattle.mg_engine_steps.specs.standing.BasedLaws.{tests_all}
-use Rattle.mg_engine_steps.proofs.standing.tests_tell_whom_all_see.Goals as goal
-
-pub returns : goal.returns
-returns c = tests_all

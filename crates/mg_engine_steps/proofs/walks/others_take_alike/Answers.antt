@@ -1,5 +1,0 @@
-use Rattle.mg_engine_steps.specs.reads.TakesLaws.{others_take_alike}
-use Rattle.mg_engine_steps.proofs.walks.others_take_alike.Goals as goal
-
-pub returns : goal.returns
-returns c = others_take_alike

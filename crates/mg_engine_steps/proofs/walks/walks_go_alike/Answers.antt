@@ -1,8 +1,0 @@
-use Rattle.mg_engine_steps.specs.reads.WalksLaws.{walks_go_alike, walks_stay_over}
-use Rattle.mg_engine_steps.proofs.walks.walks_go_alike.Goals as goal
-
-pub returns-clause-alike : goal.returns-clause-alike
-returns-clause-alike c = walks_go_alike
-
-pub returns-clause-over : goal.returns-clause-over
-returns-clause-over c = walks_stay_over

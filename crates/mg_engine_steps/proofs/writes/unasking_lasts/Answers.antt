@@ -1,7 +1,0 @@
-use Rattle.mg_image.specs.Form.{packed_form}
-use Rattle.mg_lasting.specs.StepLaws.{asking_lasts}
-use Rattle.mg_engine_steps.specs.commits.Unasked.{unasking_lasts}
-use Rattle.mg_engine_steps.proofs.writes.unasking_lasts.Goals as goal
-
-pub returns : goal.returns
-returns g c = unasking_lasts packed_form g.row.D.Denot g.row.L.Denot g.D.Disk.meaning (asking_lasts packed_form)

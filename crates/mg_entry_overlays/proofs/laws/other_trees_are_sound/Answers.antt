@@ -1,6 +1,0 @@
-use Rattle.mg_image.specs.Form.{packed_form}
-use Rattle.mg_entry_overlays.specs.TreesSoundLaws.{other_trees_are_sound}
-use Rattle.mg_entry_overlays.proofs.laws.other_trees_are_sound.Goals as goal
-
-pub returns : goal.returns
-returns c = other_trees_are_sound packed_form

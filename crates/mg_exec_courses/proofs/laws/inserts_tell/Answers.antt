@@ -1,5 +1,0 @@
-use Rattle.mg_exec_courses.specs.InsertLaws.{inserts_tell}
-use Rattle.mg_exec_courses.proofs.laws.inserts_tell.Goals as goal
-
-pub returns : goal.returns
-returns g c = inserts_tell g.R.Records.meaning

@@ -1,5 +1,0 @@
-use Rattle.mg_exec_courses.specs.ReadLaws.{reads_tell}
-use Rattle.mg_exec_courses.proofs.laws.reads_tell.Goals as goal
-
-pub returns : goal.returns
-returns g c = reads_tell g.R.Records.meaning

@@ -1,5 +1,0 @@
-use Rattle.mg_exec_courses.specs.StepLaws.{steps_tell}
-use Rattle.mg_exec_courses.proofs.laws.steps_tell.Goals as goal
-
-pub returns : goal.returns
-returns g c = steps_tell g.R.Records.meaning

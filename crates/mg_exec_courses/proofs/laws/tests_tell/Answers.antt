@@ -1,5 +1,0 @@
-use Rattle.mg_exec_courses.specs.TestLaws.{tests_tell}
-use Rattle.mg_exec_courses.proofs.laws.tests_tell.Goals as goal
-
-pub returns : goal.returns
-returns g c = tests_tell g.R.Records.meaning

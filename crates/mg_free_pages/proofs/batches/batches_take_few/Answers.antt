@@ -1,5 +1,0 @@
-use Rattle.mg_free_pages.specs.BatchLawsHold.{batch_laws}
-use Rattle.mg_free_pages.proofs.batches.batches_take_few.Goals as goal
-
-pub returns : goal.returns
-returns g c = batch_laws g.D.Disk.meaning

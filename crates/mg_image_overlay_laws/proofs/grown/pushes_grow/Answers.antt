@@ -1,0 +1,6 @@
+use Rattle.mg_image.specs.Form.{packed_form}
+use Rattle.mg_image_overlay_laws.specs.tables.PushGrown.{push_grown_every}
+use Rattle.mg_image_overlay_laws.proofs.grown.pushes_grow.Goals as goal
+
+pub returns : goal.returns
+returns c = push_grown_every packed_form c.one_reading.ensures.packed_rows (λ page n is. is)

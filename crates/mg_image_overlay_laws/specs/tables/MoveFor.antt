@@ -1,0 +1,100 @@
+-- A version is replaced by one of its transaction in another cell, in a table that may be the writer's own
+-- and gets pages in the same batch.
+use Rattle.mg_base.specs.declared.numbers.RecId.{RecId}
+use Rattle.mg_base.specs.declared.transaction.TxState.{TxState}
+use Rattle.mg_base.specs.declared.transaction.TxState.TheVariants.{Active, Dead}
+use Rattle.mg_careful.specs.CarefulWrite.{Cache, PageSet}
+use Rattle.mg_careful.specs.Precedence.{Orders}
+use Rattle.mg_image_overlay_laws.specs.tables.Growing.{EndsAt, Grows, MayBeWritten, TableEnd}
+use Rattle.mg_image_overlay_laws.specs.tables.MoveGrown.{moved_grown_whole, moved_part}
+use Rattle.mg_image.specs.Form.{Form, Pages}
+use Rattle.mg_image.specs.ReadingLaws.{RowsAreOne}
+use Rattle.mg_image.specs.Records.{Reading, record_key, writer}
+use Rattle.mg_image.specs.Sound.{IsSoundBy, facts_by}
+use Rattle.mg_image.specs.Tables.{Layout}
+use Rattle.mg_image.specs.declared.entry.Entry.{Entry}
+use Rattle.mg_image_overlay_laws.specs.pages.Kinds.{HasNoSequences}
+use Rattle.mg_image_overlay_laws.specs.transactions.CommitLaws.{LeavesOthers}
+use Rattle.mg_image_overlay_laws.specs.kept.KeptImages.{IsKept, keeping}
+use Rattle.mg_model.specs.History.{Entries}
+use Rattle.mg_model.specs.declared.opening.Opening.{Opening}
+use Rattle.mg_model.specs.declared.table.Table.{Table}
+use Rattle.mg_overlay_laws.specs.Overlays.{ChangesCache, EveryOverlay, KeepsNeeds, NeedsAllDirty, left_state}
+use Rattle.mg_image_overlay_laws.specs.records.MovePart.{MovesPages, OrdersMove}
+use Rattle.mg_image_overlay_laws.specs.records.OwnVersion.{FindsNewest, RewritesRow}
+use Rattle.mg_image_overlay_laws.specs.tables.OutSteps.{data_out, grown_out}
+use Rattle.mg_image_overlay_laws.specs.tables.OwnBatch.{writes_for}
+use Rattle.mg_image_overlay_laws.specs.names.NotThere.{HasNoneOf}
+use Rattle.mg_version.specs.CellLaws.{cell_in}
+use Rattle.mg_version.specs.declared.cell.Link.{Link}
+use Rattle.mg_version.specs.declared.cell.Version.{Version}
+use Rattle.std.proofs.Common.{Bool, List, None, Option, [], ap, inl, inr, refl, sym, true, ℕ, ◌∙◌, ◌∷◌, ◌≡◌, ◌≢◌, ◌⊎◌}
+use Rattle.mg_model.specs.History.{Entry as Event}
+
+-- the table stands in a layout, its pages end so, the record has this newest version, and the new one may
+-- be written
+abbrev pub MoveThere : Form → Pages → RecId → RecId → Table → TableEnd → Version → Entry → (ℕ → TxState)
+    → Layout → Reading → Type 0
+MoveThere form pool p x table end v n s layout r =
+    EndsAt layout table end × FindsNewest (facts_by s pool layout) r p table x v
+    × MayBeWritten form.coding (facts_by s pool layout) table (record_key table (r p)) n
+
+-- an active transaction replaces its own version of a record by one in another cell, in a table that is
+-- there or its own, and may get pages in the same batch: every overlay is kept, for the history with that
+-- write
+abbrev pub MoveKeepsFor : Form → Type 0
+MoveKeepsFor form = (size : ℕ) (o : Opening) (h : Entries) (event : Event) (by : ℕ)
+    (state : ℕ → TxState) (old new : Cache) (grown mid turned : Pages) (gone : PageSet)
+    (batch : ℕ → Option (List ℕ)) (orders : Orders) (needs now : ℕ → PageSet) (end final : TableEnd)
+    (p x : RecId) (table : Table) (v : Version) (n : Entry) (l link : Link)
+    → ChangesCache old new gone batch orders → state by ≡ Active → writer n ≡ by
+    → KeepsNeeds old gone needs now → NeedsAllDirty new now by
+    -- the pages, and their orders
+    → Grows form.in_primary size table.pointer.0 orders batch old.pool end grown final
+    → MovesPages form.in_primary grown mid turned new.pool p x v n l link
+    → batch n.at.page.0 ≢ None → batch p.page.0 ≢ None
+    → ((m : ℕ) → batch m ≡ None → mid m ≡ new.pool m)
+    → OrdersMove orders mid table n p x v
+    -- whose table it is, the record, and the version
+    → ((chosen : ℕ → Bool) (layout : Layout) (r : Reading)
+    → IsSoundBy form size (left_state chosen state) old.pool layout r
+    → MoveThere form old.pool p x table end v n (left_state chosen state) layout r
+    ⊎ ((left_state chosen state by ≡ Dead)
+    × HasNoneOf layout end.last (n.at.page.0 ∷ p.page.0 ∷ x.page.0 ∷ [])))
+    -- the history, and the statement
+    → LeavesOthers o h event by
+    → ((chosen : ℕ → Bool) → chosen by ≡ true
+    → (kept : IsKept form size o h (left_state chosen state) old.pool old.pool)
+    → RewritesRow form size o h event (left_state chosen state) old.pool old.pool p table n kept)
+    → EveryOverlay (keeping form size o h) state old needs
+    → EveryOverlay (keeping form size o (event ∷ h)) state new now
+
+pub move_for_every : (form : Form) → RowsAreOne form.coding → HasNoSequences form → MoveKeepsFor form
+move_for_every form one none size o h event by state old new grown mid turned gone batch orders needs now
+    end final p x table v n l link changes active is_by left all row moves cell_in slot_in left_by_batch
+    ordered finds brings knows every =
+    writes_for form one none size o h event by state old new gone batch orders needs now (MoveThere form old.pool p x table end v n)
+    (λ layout. HasNoneOf layout end.last (n.at.page.0 ∷ p.page.0 ∷ x.page.0 ∷ [])) changes active left all
+    brings (record {
+      finds = finds;
+      part = λ chosen set_ image dead of_pool there lays was.
+          moved_part form one none size o h (left_state chosen state) orders batch old.pool grown mid turned
+          new.pool end final p x table v n l link row moves ordered (λ y s so. (there y s so).0)
+          (λ y s so. (there y s so).1) (λ y s so. (there y s so).2)
+          (ap (left_state chosen state) (ap (λ t. t.0) (sym moves.tx) ∙ is_by) ∙ dead) of_pool cell_in
+          slot_in left_by_batch set_ image lays was;
+      beyond = λ chosen set_ image layout r out at.
+          data_out form one none size o h (left_state chosen state) set_ image layout r turned new.pool
+          x.page.0 moves.frees.page (out.data_pages x.page.0 (inr (inr (inl refl))))
+          (data_out form one none size o h (left_state chosen state) set_ image layout r mid turned
+          p.page.0 moves.slot_page (out.data_pages p.page.0 (inr (inl refl)))
+          (data_out form one none size o h (left_state chosen state) set_ image layout r grown mid
+          n.at.page.0 moves.put_page (out.data_pages n.at.page.0 (inl refl))
+          (grown_out form one none size o h (left_state chosen state) set_ image layout r table.pointer.0
+          orders batch old.pool grown end final row out.pointer at)));
+      whole = λ chosen is limbo start there.
+          moved_grown_whole form one none size o h (left_state chosen state) orders batch old.pool grown mid
+          turned new.pool end final p x table v n l link row moves ordered (λ y s so. (there y s so).0)
+          (λ y s so. (there y s so).1) (λ y s so. (there y s so).2) event by
+          (ap (left_state chosen state) is_by ∙ limbo) brings start (knows chosen is start);
+    }) every

@@ -1,6 +1,0 @@
-use Rattle.mg_image.specs.Form.{packed_form}
-use Rattle.mg_image_overlays.specs.transactions.MidwayLaws.{midway_leaves}
-use Rattle.mg_image_overlays.proofs.bits.crashes_leave_either.Goals as goal
-
-pub returns : goal.returns
-returns c = midway_leaves packed_form

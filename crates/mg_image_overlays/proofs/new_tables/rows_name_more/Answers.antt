@@ -1,5 +1,0 @@
-use Rattle.mg_image_overlays.specs.names.JoinedRows.{join_names}
-use Rattle.mg_image_overlays.proofs.new_tables.rows_name_more.Goals as goal
-
-pub returns : goal.returns
-returns c = join_names

@@ -1,7 +1,0 @@
-use Rattle.mg_image.specs.Form.{packed_form}
-use Rattle.mg_image_overlays.specs.transactions.CommitSound.{commit_sound}
-use Rattle.mg_image_overlays.proofs.steps.commits_stay_sound.Goals as goal
-
-pub returns : goal.returns
-returns c = λ size state t pages layout r limbo sound.
-    commit_sound state t limbo packed_form size pages layout r sound

@@ -1,7 +1,0 @@
-use Rattle.mg_image.specs.Form.{packed_form}
-use Rattle.mg_image_overlays.specs.tables.TableOwners.{owned}
-use Rattle.mg_image_overlays.proofs.steps.tables_have_makers.Goals as goal
-
-pub returns : goal.returns
-returns c = λ size state pages layout r sound db changes held changed.
-    owned packed_form size state pages layout r sound db changes held changed

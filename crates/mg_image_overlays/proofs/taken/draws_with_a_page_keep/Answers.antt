@@ -1,6 +1,0 @@
-use Rattle.mg_image.specs.Form.{packed_form}
-use Rattle.mg_image_overlays.specs.pages.DrawPage.{draw_page_every}
-use Rattle.mg_image_overlays.proofs.taken.draws_with_a_page_keep.Goals as goal
-
-pub returns : goal.returns
-returns c = draw_page_every packed_form (λ page n is. is)

@@ -1,6 +1,0 @@
-use Rattle.mg_image.specs.Form.{packed_form}
-use Rattle.mg_image_overlays.specs.tables.FirstFor.{add_for_every}
-use Rattle.mg_image_overlays.proofs.whose.first_versions_keep_for.Goals as goal
-
-pub returns : goal.returns
-returns c = add_for_every packed_form c.one_reading.ensures.packed_rows (λ page n is. is)

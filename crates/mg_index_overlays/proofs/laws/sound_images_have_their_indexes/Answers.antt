@@ -1,9 +1,0 @@
-use Rattle.mg_image.specs.Form.{packed_form}
-use Rattle.mg_index_overlays.specs.SoundLaws.{indexes_start, sound_has_indexes}
-use Rattle.mg_index_overlays.proofs.laws.sound_images_have_their_indexes.Goals as goal
-
-pub returns-clause-image : goal.returns-clause-image
-returns-clause-image c = sound_has_indexes packed_form
-
-pub returns-clause-start : goal.returns-clause-start
-returns-clause-start c = indexes_start packed_form

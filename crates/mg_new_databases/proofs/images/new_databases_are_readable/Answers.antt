@@ -1,5 +1,0 @@
-use Rattle.mg_new_databases.specs.ReadableLaws.{new_are_readable}
-use Rattle.mg_new_databases.proofs.images.new_databases_are_readable.Goals as goal
-
-pub returns : goal.returns
-returns c = new_are_readable

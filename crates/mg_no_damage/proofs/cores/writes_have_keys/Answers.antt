@@ -1,5 +1,0 @@
-use Rattle.mg_no_damage.proofs.CoreKeyLemmas.{keys_are_named}
-use Rattle.mg_no_damage.proofs.cores.writes_have_keys.Goals as goal
-
-pub returns : goal.returns
-returns g c = keys_are_named g.row.D.Denot

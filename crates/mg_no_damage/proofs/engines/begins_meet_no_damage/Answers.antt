@@ -1,5 +1,0 @@
-use Rattle.mg_no_damage.proofs.BeginLemmas.{begins}
-use Rattle.mg_no_damage.proofs.engines.begins_meet_no_damage.Goals as goal
-
-pub returns : goal.returns
-returns g c = begins g.D.Disk.meaning c.numbers_are_drawn.ensures

@@ -1,8 +1,0 @@
-use Rattle.mg_no_damage.proofs.SoundLemmas.{lawful_of, stands_so}
-use Rattle.mg_no_damage.proofs.reads.sound_images_are_lawful.Goals as goal
-
-pub returns-clause-records : goal.returns-clause-records
-returns-clause-records c = lawful_of
-
-pub returns-clause-tables : goal.returns-clause-tables
-returns-clause-tables c = stands_so

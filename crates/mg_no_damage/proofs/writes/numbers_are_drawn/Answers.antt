@@ -1,5 +1,0 @@
-use Rattle.mg_no_damage.proofs.DrawLemmas.{numbers_are_drawn}
-use Rattle.mg_no_damage.proofs.writes.numbers_are_drawn.Goals as goal
-
-pub returns : goal.returns
-returns g c = numbers_are_drawn g.D.Disk.meaning g.met.D.Disk.counted c.pages_are_taken.ensures.taken

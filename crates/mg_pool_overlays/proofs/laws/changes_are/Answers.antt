@@ -1,5 +1,0 @@
-use Rattle.mg_pool_overlays.specs.Ties.{changes_are}
-use Rattle.mg_pool_overlays.proofs.laws.changes_are.Goals as goal
-
-pub returns : goal.returns
-returns g c = changes_are g.row.D.Denot g.row.L.Denot

@@ -1,5 +1,0 @@
-use Rattle.mg_pool_overlays.specs.Ties.{runs_are}
-use Rattle.mg_pool_overlays.proofs.laws.page_writes_are.Goals as goal
-
-pub returns : goal.returns
-returns g c = runs_are g.row.D.Denot g.row.L.Denot g.D.Disk.meaning

@@ -1,0 +1,7 @@
+use Rattle.mg_image.specs.Form.{packed_form}
+use Rattle.mg_tie_laws.specs.GivenTies.{given_pages_are}
+use Rattle.mg_tie_laws.proofs.heap.given_pages_are.Goals as goal
+
+pub returns : goal.returns
+returns g c = given_pages_are packed_form c.one_reading.ensures.packed_rows (λ page n is. is) g.row.D.Denot
+    g.row.L.Denot g.D.Disk.meaning

@@ -1,8 +1,0 @@
-use Rattle.std.proofs.Common.{refl}
-use Rattle.mg_image.specs.Form.{packed_form}
-use Rattle.mg_ties.specs.MoveTies.{move_row_keeps}
-use Rattle.mg_ties.proofs.chain.moves_keep.Goals as goal
-
-pub returns : goal.returns
-returns g c = move_row_keeps packed_form c.one_reading.ensures.packed_rows (λ page n is. is) refl g.row.D.Denot
-    g.row.L.Denot g.D.Disk.meaning

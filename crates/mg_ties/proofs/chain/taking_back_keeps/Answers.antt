@@ -1,8 +1,0 @@
-use Rattle.std.proofs.Common.{refl}
-use Rattle.mg_image.specs.Form.{packed_form}
-use Rattle.mg_ties.specs.BackTies.{back_row_keeps}
-use Rattle.mg_ties.proofs.chain.taking_back_keeps.Goals as goal
-
-pub returns : goal.returns
-returns g c = back_row_keeps packed_form c.one_reading.ensures.packed_rows (λ page n is. is) refl g.row.D.Denot
-    g.row.L.Denot g.D.Disk.meaning

@@ -1,7 +1,0 @@
-use Rattle.mg_image.specs.Form.{packed_form}
-use Rattle.mg_ties.specs.GivenForTies.{given_pages_are_for}
-use Rattle.mg_ties.proofs.heap.given_pages_are_for.Goals as goal
-
-pub returns : goal.returns
-returns g c = given_pages_are_for packed_form c.one_reading.ensures.packed_rows (λ page n is. is) g.row.D.Denot
-    g.row.L.Denot g.D.Disk.meaning

@@ -1,5 +1,0 @@
-use Rattle.mg_ties.specs.Changed.{changed_batches_are}
-use Rattle.mg_ties.proofs.space.changed_batches_are.Goals as goal
-
-pub returns : goal.returns
-returns g c = changed_batches_are g.row.D.Denot g.row.L.Denot g.D.Disk.meaning

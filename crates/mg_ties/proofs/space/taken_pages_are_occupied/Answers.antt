@@ -1,5 +1,0 @@
-use Rattle.mg_ties.specs.Occupied.{taken_are_occupied}
-use Rattle.mg_ties.proofs.space.taken_pages_are_occupied.Goals as goal
-
-pub returns : goal.returns
-returns c = taken_are_occupied
