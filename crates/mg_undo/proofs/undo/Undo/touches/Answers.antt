@@ -1,3 +1,4 @@
+use Rattle.std.specs.Prelude.{false}
 use Rattle.std.proofs.Common.{sym, subst, ◌∙◌}
 use Rattle.mg_undo.specs.Undo.{State, TellsTable, state_of}
 use Rattle.mg_undo.proofs.TouchLemmas.{told_since, told_without}
