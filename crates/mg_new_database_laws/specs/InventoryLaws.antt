@@ -85,7 +85,7 @@ le-mul_suc : (k n : ℕ) → k ≤ suc n * k
 le-mul_suc k n = let more : suc n * k ≡ n * k + k = suc-mul n k in omega (arith, more)
 
 -- each page behind the seventh is zero
-blank_behind : (size : ℕ) (image : Image) → IsMade size image → (n : ℕ) → 7 ≤ n → n < GREATEST_LIMIT
+pub blank_behind : (size : ℕ) (image : Image) → IsMade size image → (n : ℕ) → 7 ≤ n → n < GREATEST_LIMIT
     → page_at size image n ≡ blank size
 blank_behind size image made n from below =
     subst (λ (k : ℕ). k < GREATEST_LIMIT → page_at size image k ≡ blank size) (sym same)

@@ -13,6 +13,7 @@ pub mod InventoryLaws
 pub mod MemLaws
 pub mod NameLaws
 pub mod NewDatabase
+pub mod NewRoom
 pub mod PackedLaws
 pub mod PageCellLaws
 pub mod PageLaws
