@@ -27,6 +27,8 @@ use Rattle.mg_engine_change_laws.specs.rows.WalkLaws.{same_walk_on, unseen}
 use Rattle.mg_engine_change_laws.specs.rows.Walks.{OthersWalkOn}
 use Rattle.mg_engine_meaning_laws.specs.PlainTables.{HasPlainTables}
 use Rattle.mg_engine_meaning_laws.specs.Standings.{HasTips}
+use Rattle.mg_engine_step_laws.specs.standing.Bare.{IsBare}
+use Rattle.mg_engine_step_laws.specs.standing.BareLaws.{bare_grown, bare_has_found}
 use Rattle.mg_engine_step_laws.specs.writes.Batches.{RowsLastStill}
 use Rattle.mg_engine_step_laws.specs.writes.Caches.{kept_from, row_changed}
 use Rattle.mg_engine_step_laws.specs.standing.Choices.{placed}
@@ -277,6 +279,9 @@ module _ (one : RowsAreOne packed_coding) (one_way : StandsOneWay packed_form) (
     cache = last o h before after i j batch asked session (begins o stands.opening) stands.legal lasts
         (row_changed m packed_form o h s before after i j batch asked session stands.memory was lasts h changed_data.bits kept)
 
+    bare_on : IsBare it.reads.layout
+    bare_on = bare_grown shows.layout it.reads.layout shows.reading it.reads.grown shows.bare
+
     abbrev stands_later : Stands packed_form size o h s (Some later)
     stands_later = record {
       opening = stands.opening;
@@ -291,6 +296,9 @@ module _ (one : RowsAreOne packed_coding) (one_way : StandsOneWay packed_form) (
             it.reads;
         tables = λ u is. finds_on o h s shows.layout it.reads.layout shows.reading u it.reads.grown
             (shows.tables u is);
+        found = bare_has_found packed_form size state later it.reads.layout it.reads.reading it.reads.sound bare_on s.state
+            s.live;
+        bare = bare_on;
       };
     }
 

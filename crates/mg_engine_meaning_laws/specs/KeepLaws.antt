@@ -270,6 +270,8 @@ module _ {D P : Type 0} (m : Meaning D) (places : Places P) (begin : OpeningsBeg
       next = shows.stands.shows.next;
       versions = shows.stands.shows.versions;
       tables = λ u is. finds_one u (shows.stands.shows.tables u is);
+      found = shows.stands.shows.found;
+      bare = shows.stands.shows.bare;
     }
 
     stands_with : Stands packed_form old.store.geometry.size o h s_with (Some pages)

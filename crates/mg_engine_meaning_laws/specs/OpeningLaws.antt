@@ -36,6 +36,7 @@ use Rattle.mg_pool.specs.Dirty.{DirtyPages}
 use Rattle.mg_pool.specs.Pool.{shown}
 use Rattle.mg_space.specs.View.{Tells}
 use Rattle.mg_space.specs.declared.links.FireLinks.{FireLinks}
+use Rattle.mg_engine_step_laws.specs.standing.BareLaws.{bare_by}
 use Rattle.mg_engine_step_laws.specs.standing.Following.{IsFirst}
 use Rattle.mg_engine_step_laws.specs.standing.StartLaws.{StandsFirst}
 use Rattle.mg_txlist.specs.Laws.{LoadedSays}
@@ -142,15 +143,19 @@ module _ {D : Type 0} (m : Meaning D) (disk : D) (limit : ℕ) (core : Core D) (
   same_states : state_at its_size its_pages ≡ said core.list
   same_states = fun_ext (λ t. sym (list_says.1 t))
 
+  each_plain : EachIsPlain its_size (said core.list) its_pages
+  each_plain = subst (λ (x : ℕ → TxState). EachIsPlain its_size x its_pages) same_states
+      (subst (λ (ps : Pages). EachIsPlain its_size (state_at its_size ps) ps)
+      (as_shown m disk limit core opens image on.tells) it.plain_tables)
+
   stands : Stands packed_form its_size o [] (standing_of core (λ t name. 0) (λ t name. None)) (Some its_pages)
   stands = stands_first its_size o (standing_of core (λ t name. 0) (λ t name. None)) its_pages it.opened opened_is
       it.begins it.whole memory
+      (λ layout r sound. bare_by layout (λ its there. (each_plain everyone layout r sound its there).no_index))
 
   plain_tables : HasPlainTables its_size (said core.list) its_pages
   plain_tables = record {
-    each = subst (λ (x : ℕ → TxState). EachIsPlain its_size x its_pages) same_states
-        (subst (λ (ps : Pages). EachIsPlain its_size (state_at its_size ps) ps)
-        (as_shown m disk limit core opens image on.tells) it.plain_tables);
+    each = each_plain;
     agree = agree its_size o [] (standing_of core (λ t name. 0) (λ t name. None)) its_pages
         (record { memory = stands.memory; shows = stands.shows }) (begin o it.whole) stands.legal it.grows;
   }

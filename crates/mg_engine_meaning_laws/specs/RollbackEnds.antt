@@ -221,7 +221,7 @@ module _ {D P : Type 0} (m : Meaning D) (places : Places P) (one : RowsAreOne pa
       (standing_of (left_by old waits list old.store t.0) stands.numbers stands.tables) old.store shows.image
       (asked_in old.works) (asked_in (without_work t.0 old.works)) (sessions_in old.works)
       (sessions_in (without_work t.0 old.works)) shows.stands shows.lasts core.pool shows.held stands.grows
-      shows.plain_tables.agree (lawful o h stands) refl refl refl continues.1
+      shows.plain_tables (lawful o h stands) refl refl refl continues.1
       (keep_asking m places old waits list old.store t.0 Dead ends not_active o h (entry (Rollback t) Fine) refl)
       (follows o h stands) in record {
         image = shows.image;

@@ -44,6 +44,8 @@ use Rattle.mg_pool.specs.Pool.{cache_of, shown}
 use Rattle.mg_pool_overlay_laws.specs.Needs.{needs_by}
 use Rattle.mg_seek.specs.Histories.{told_versions}
 use Rattle.mg_lasting_laws.specs.Lasting.{Lasts}
+use Rattle.mg_engine_step_laws.specs.standing.Bare.{IsBare}
+use Rattle.mg_engine_step_laws.specs.standing.BareLaws.{bare_by, bare_has_found}
 use Rattle.mg_engine_step_laws.specs.standing.Ending.{Dies, GoesWithTable, StaysRecord, VersionsDie}
 use Rattle.mg_engine_step_laws.specs.standing.Following.{FollowsEntry, KeepsTables, OthersKeepTables, StandsOn}
 use Rattle.mg_engine_step_laws.specs.standing.Standing.{FindsTables, HasFirstPage, IsSeenAs, ShowsHistory, Standing, Stands}
@@ -57,7 +59,7 @@ use Rattle.mg_engine_meaning_laws.specs.AlikeTables.{versions_alike}
 use Rattle.mg_engine_meaning_laws.specs.Falling.{Falls, HasAlike, alike, all_but, goes, read_alike, same_back, one_still, stays_unless}
 use Rattle.mg_engine_step_laws.specs.tables.ChosenTables.{newest_changed, not_open}
 use Rattle.mg_engine_meaning_laws.specs.Rollbacks.{RollbacksGoOn}
-use Rattle.mg_engine_meaning_laws.specs.PlainTables.{IndexesAgree}
+use Rattle.mg_engine_meaning_laws.specs.PlainTables.{HasPlainTables}
 use Rattle.mg_image_overlay_laws.specs.tables.Growing.{IsTableOf}
 
 -- ---- own changes, by the versions of a key
@@ -103,7 +105,7 @@ module _ (one : RowsAreOne packed_coding) (seen_law : SeenIsNotMade) (die : Vers
     (keep : OthersKeepTables) (size : ℕ) (o : Opening) (h : Entries) (e : Entry) (t : ℕ) (s new : Standing)
     (pages : Pages) (stands : Stands packed_form size o h s (Some pages)) (opening : MayBegin o)
     (legal : IsLegal o (e ∷ h)) (is : effect_of e ≡ Ends t Dead) (active : s.state t ≡ Active)
-    (grows : CatalogGrows o h) (follows : FollowsEntry o h e s new) (agree : IndexesAgree size s.state pages)
+    (grows : CatalogGrows o h) (follows : FollowsEntry o h e s new) (plain : HasPlainTables size s.state pages)
     (kept : IsKept packed_form size o h (left_state (all_but t) (state_of o h)) pages pages) where
   shows : ShowsHistory packed_form size o h s pages
   shows = stands.shows
@@ -163,7 +165,7 @@ module _ (one : RowsAreOne packed_coding) (seen_law : SeenIsNotMade) (die : Vers
 
   -- tables have the same indexes in both
   same_there : (x y : Table) → IsTableOf a x → IsTableOf b y → IsSameTable x y → x.indexes ≡ y.indexes
-  same_there = agree everyone (all_but t) a b r q shows.sound
+  same_there = plain.agree everyone (all_but t) a b r q shows.sound
       (subst (λ (x : ℕ → TxState). IsSoundBy packed_form size (left_state (all_but t) x) pages b q)
       (sym (fun_ext stands.memory.state)) kept.sound)
 
@@ -413,6 +415,11 @@ module _ (one : RowsAreOne packed_coding) (seen_law : SeenIsNotMade) (die : Vers
     found : FindsTables o (e ∷ h) new b u
     found = record { seen = seen; changed = changed }
 
+  bare_now : IsBare b
+  bare_now = bare_by b (λ its there. (plain.each (all_but t) b q
+      (subst (λ (x : ℕ → TxState). IsSoundBy packed_form size (left_state (all_but t) x) pages b q)
+      (sym (fun_ext stands.memory.state)) kept.sound) its there).no_index)
+
   pub shows_now : ShowsHistory packed_form size o (e ∷ h) new pages
   shows_now = record {
     layout = b;
@@ -421,6 +428,8 @@ module _ (one : RowsAreOne packed_coding) (seen_law : SeenIsNotMade) (die : Vers
     next = shows.next ∙ (sym (ap (λ (x : Effect). next_after x s.next) is) ∙ sym follows.next);
     versions = versions_now;
     tables = found;
+    found = bare_has_found packed_form size now pages b q second bare_now new.state new.live;
+    bare = bare_now;
   }
 
 -- ---- the engine
@@ -429,11 +438,11 @@ pub rollbacks_go_on : (D L : Type 0) (m : Meaning D) → RowsAreOne packed_codin
     → OthersKeepTables → OpeningsBegin → PoolIsKept packed_form D L → RollbackLastsOn D L m packed_form
     → AsksOtherwise D L m packed_form → StandsOn packed_form → RollbacksGoOn D L m
 rollbacks_go_on D L m one seen_law die keep begins pool_kept rollback_lasts otherwise stands_on o h e t s new
-    pool i asked now_asked session now_session stands lasts is_pool held grows agree lawful passing no_failure is
+    pool i asked now_asked session now_session stands lasts is_pool held grows plain lawful passing no_failure is
     active keep_asking follows = (
       stands_on pool.geometry.size o h e s new (Some (shown pool.dirty i)) (Some (shown pool.dirty i)) stands
           lawful follows (shows_now one seen_law die keep pool.geometry.size o h e t s new (shown pool.dirty i)
-          stands opening (lawful, stands.legal) is active grows follows agree kept),
+          stands opening (lawful, stands.legal) is active grows follows plain kept),
       otherwise o (e ∷ h) pool asked now_asked session now_session keep_asking
           (rollback_lasts o h e t pool asked session passing no_failure is
           (sym (stands.memory.state t) ∙ active) lasts),

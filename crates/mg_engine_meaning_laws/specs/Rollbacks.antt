@@ -16,7 +16,7 @@ use Rattle.mg_lasting_laws.specs.Lasting.{LastsOn}
 use Rattle.mg_engine_step_laws.specs.standing.Following.{FollowsEntry}
 use Rattle.mg_engine_step_laws.specs.standing.Standing.{Standing, Stands}
 use Rattle.mg_engine_step_laws.specs.commits.PageWrites.{KeepAsking}
-use Rattle.mg_engine_meaning_laws.specs.PlainTables.{IndexesAgree}
+use Rattle.mg_engine_meaning_laws.specs.PlainTables.{HasPlainTables}
 
 -- a transaction is rolled back: no page has changed, its versions no longer count, and the tables that it has made
 -- stand there no more
@@ -25,7 +25,7 @@ RollbacksGoOn D L m = (o : Opening) (h : Entries) (e : Entry) (t : ℕ) (s new :
     (pool : Pool D L) (i : Image) (asked now_asked : Asked) (session now_session : Sessions)
     → Stands packed_form pool.geometry.size o h s (Some (shown pool.dirty i))
     → LastsOn m packed_form o h pool asked session → IsPool m pool → m.held pool.disk ≡ Some i
-    → CatalogGrows o h → IndexesAgree pool.geometry.size s.state (shown pool.dirty i) → IsLawful o h e
+    → CatalogGrows o h → HasPlainTables pool.geometry.size s.state (shown pool.dirty i) → IsLawful o h e
     → is_durable e ≡ false → may_last e ≡ false
     → effect_of e ≡ Ends t Dead → s.state t ≡ Active
     → KeepAsking o (e ∷ h) asked now_asked session now_session → FollowsEntry o h e s new

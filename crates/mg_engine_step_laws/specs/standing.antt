@@ -1,4 +1,6 @@
 -- When an engine's memory and pages stand for a history, and what keeps them so.
+pub mod Bare
+pub mod BareLaws
 pub mod Based
 pub mod BasedLaws
 pub mod ChainLaws

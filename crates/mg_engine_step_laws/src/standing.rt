@@ -6,10 +6,11 @@
 //! (`ShowsHistory`), where they are known: they are a sound image, in which each active transaction counts
 //! as in limbo, and their records have the versions that the history says (`HaveVersions`): for each key of a
 //! table one record at most speaks, and all others are silent, since no version of theirs counts or they
-//! begin with a deletion that all see. A disk that does not tell its images, or a page write that has
-//! failed, leaves the part on memory alone.
+//! begin with a deletion that all see. And indexes have what a keeper asks of them (`HasFound`): what an active
+//! transaction sees is found. No table has an index yet (`IsBare`), which gives that at once (`bare_has_found`). A disk
+//! that does not tell its images, or a page write that has failed, leaves the part on memory alone.
 //!
-//! The definitions stand in `specs/Versions`, `specs/Based` and `specs/Standing`; `specs/StandingLaws`, `Writing`,
+//! The definitions stand in `specs/Versions`, `specs/Based`, `specs/Bare` and `specs/Standing`; `specs/StandingLaws`, `Writing`,
 //! `Ending`, `QuietPages` and `Following` have what counts, and the files `..Laws`, `Speakers` and `StartVersions` prove it. There
 //! is no program here: each function does nothing, and its contract is a law.
 

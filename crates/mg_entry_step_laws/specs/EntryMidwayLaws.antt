@@ -3,6 +3,7 @@ use Rattle.std.proofs.Common.{◌∙◌, ◌∷◌, refl, sym, ℕ, List}
 use Rattle.mg_base.specs.Disk.{Meaning}
 use Rattle.mg_base.specs.Image.{Image}
 use Rattle.mg_engine_step_laws.specs.backs.Again.{again}
+use Rattle.mg_engine_step_laws.specs.standing.BareLaws.{bare_grown}
 use Rattle.mg_engine_step_laws.specs.writes.Batches.{RowsLastStill}
 use Rattle.mg_engine_step_laws.specs.writes.Knowing.{WasChanged}
 use Rattle.mg_engine_step_laws.specs.backs.Midway.{GoesBack, IsMidway}
@@ -68,6 +69,7 @@ module _ (form : Form) (lay : InsertionsLay form) (keep : InsertionsKeep form) (
     stays = λ p its_ there. shows_now.owners p.page.0 ∙ shows.stays p its_ there;
     new = λ p its_ there. shows.new p its_ (sym (shows_now.owners p.page.0) ∙ there);
     tables = λ u is. finds_on o h s shows.layout shows_now.layout shows.reading u shows_now.grown (shows.tables u is);
+    bare = bare_grown shows.layout shows_now.layout shows.reading shows_now.grown shows.bare;
     each_record = shows.each_record;
     not_yet = shows.not_yet;
     done = shows.done;

@@ -2,6 +2,7 @@
 use Rattle.std.proofs.Common.{◌∙◌, refl, ℕ, Some}
 use Rattle.mg_base.specs.Disk.{Meaning}
 use Rattle.mg_base.specs.Image.{Image}
+use Rattle.mg_engine_step_laws.specs.standing.BareLaws.{bare_grown}
 use Rattle.mg_engine_step_laws.specs.writes.Batches.{RowsLastStill}
 use Rattle.mg_engine_step_laws.specs.writes.Caches.{kept_now, row_changed}
 use Rattle.mg_engine_step_laws.specs.writes.Knowing.{WasChanged}
@@ -33,6 +34,7 @@ use Rattle.mg_pool_overlay_laws.specs.Needs.{Asked, Sessions}
 use Rattle.mg_tie_laws.specs.Changed.{KeptIn, fresh}
 use Rattle.mg_entry_step_laws.specs.EntryBatchLaws.{has_now, kept_then, shows_entries}
 use Rattle.mg_entry_step_laws.specs.EntryStays.{EntriesStay, HasEntered}
+use Rattle.mg_key_entry_laws.specs.KeptEntriesLaws.{entries_keep_found}
 
 -- ---- the law
 
@@ -84,6 +86,9 @@ module _ (form : Form) (begins : OpeningsBegin) (lay : InsertionsLay form) (keep
         versions = versions_on form size o h s pool (shown after.dirty j) shows shows_now.layout shows_now.grown;
         tables = λ u is. finds_on o h s shows.layout shows_now.layout shows.reading u shows_now.grown
             (shows.tables u is);
+        found = entries_keep_found form size (left_state everyone s.state) pool (shown after.dirty j) shows.layout
+            shows.reading shows_now s.state s.live shows.found;
+        bare = bare_grown shows.layout shows_now.layout shows.reading shows_now.grown shows.bare;
       };
     };
     lasts = cache.0;

@@ -17,7 +17,7 @@
 //!
 //! Invariant: none, it keeps no state.
 //! Below: `mg_seek`, who speaks for a key; `mg_image`, what an index finds; `mg_entry_overlay_laws`, an image after a batch of
-//! entries. Above: the engine, once it seeks by indexes.
+//! entries. Above: `mg_engine_step_laws`, where pages that show a history have `HasFound`; the engine, once it seeks by indexes.
 //! Not here: how the entries of a key are read (`mg_btree`), and what keeps them while records are written.
 #![tactic(auto)]
 

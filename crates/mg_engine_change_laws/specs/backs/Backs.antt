@@ -3,7 +3,7 @@
 use Rattle.std.specs.Prelude.{◌≡◌, ℕ, true, false, List, ◌∷◌, None, Some}
 use Rattle.mg_base.specs.Disk.{Meaning}
 use Rattle.mg_base.specs.Image.{Image}
-use Rattle.mg_engine_meaning_laws.specs.PlainTables.{IndexesAgree}
+use Rattle.mg_engine_meaning_laws.specs.PlainTables.{HasPlainTables}
 use Rattle.mg_engine_step_laws.specs.backs.Again.{rolling}
 use Rattle.mg_engine_step_laws.specs.backs.Midway.{GoesBack}
 use Rattle.mg_engine_step_laws.specs.commits.PageWrites.{KeepAsking}
@@ -71,7 +71,7 @@ BacksAreGivenUp D L m = (o : Opening) (h : Entries) (e refused : Entry) (point :
     → KeepAsking o (rolling t ∷ refused ∷ h) asked now_asked session now_session
     → TakesKeysOf m start.geometry.size o h e t s begins.stands.shows.versions.speaker keys
     (since_point point (deeds_by t (steps o h))) rest start after k j
-    → EndsOver m start after j → IndexesAgree start.geometry.size s.state (shown after.dirty j)
+    → EndsOver m start after j → HasPlainTables start.geometry.size s.state (shown after.dirty j)
     → Stands packed_form start.geometry.size o (rolling t ∷ refused ∷ h) new (Some (shown after.dirty j))
     × LastsOn m packed_form o (rolling t ∷ refused ∷ h) after now_asked now_session
     × LeavesSince m start.disk after.disk (HoldsAcknowledged packed_form start.geometry.size o h)

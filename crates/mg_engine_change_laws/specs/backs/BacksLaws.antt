@@ -3,7 +3,7 @@ use Rattle.std.proofs.Common.{◌≡◌, sym, subst, ◌∙◌, ℕ, false, List
 use Rattle.mg_base.specs.Disk.{Meaning}
 use Rattle.mg_base.specs.Image.{Image}
 use Rattle.mg_base.specs.declared.numbers.RecId.{RecId}
-use Rattle.mg_engine_meaning_laws.specs.PlainTables.{IndexesAgree}
+use Rattle.mg_engine_meaning_laws.specs.PlainTables.{HasPlainTables}
 use Rattle.mg_engine_step_laws.specs.backs.Again.{AreTaken, rolling, without_key}
 use Rattle.mg_engine_step_laws.specs.backs.Midway.{EnginesGoBack, IsMidway, MidwaysBegin}
 use Rattle.mg_engine_step_laws.specs.backs.Shown.{ShowsFirst, ShowsMidway}
@@ -115,7 +115,7 @@ module _ {D L : Type 0} (m : Meaning D) (since : SinceAreTaken) (begin : Midways
       (keep_asking : KeepAsking o (rolling t ∷ refused ∷ h) asked now_asked session now_session)
       (takes : TakesKeysOf m start.geometry.size o h e t s begins.stands.shows.versions.speaker keys whole rest start
       after k j) (ends : EndsOver m start after j)
-      (agree : IndexesAgree start.geometry.size s.state (shown after.dirty j)) where
+      (plain : HasPlainTables start.geometry.size s.state (shown after.dirty j)) where
     in_the_middle : StandsMidway m start.geometry.size o h e t whole rest s start after (shown start.dirty k) first j
         asked session
     in_the_middle = midway_last keys rest after j takes
@@ -127,14 +127,14 @@ module _ {D L : Type 0} (m : Meaning D) (since : SinceAreTaken) (begin : Midways
     is_given_up = subst (λ (n : ℕ). (stands : Stands packed_form n o h s (Some (shown start.dirty k)))
         → IsMidway m packed_form n o h e t rest s start after j asked session
         → ShowsMidway packed_form n o h e t whole rest s (shown start.dirty k) stands.shows (shown after.dirty j)
-        → IndexesAgree n s.state (shown after.dirty j)
+        → HasPlainTables n s.state (shown after.dirty j)
         → Stands packed_form n o (rolling t ∷ refused ∷ h) new (Some (shown after.dirty j))
         × LastsOn m packed_form o (rolling t ∷ refused ∷ h) after now_asked now_session
         × LeavesSince m start.disk after.disk (HoldsAcknowledged packed_form n o h)) ends.size
         (λ stands cache pages same. give_up o h e refused t whole rest s mid new start after k j asked now_asked session
         now_session stands ends.pool ends.held grows same taken lawful ends_lawful passing no_failure gives keep_asking cache
         pages)
-        begins.stands in_the_middle.cache in_the_middle.pages agree
+        begins.stands in_the_middle.cache in_the_middle.pages plain
 
 pub backs_go_on : (D L : Type 0) (m : Meaning D) → SinceAreTaken → KeysAreTaken → MidwaysBegin packed_form D L m
     → ShowsFirst packed_form → KeysGoOn D L m → OpeningsBegin → BackFinds → BacksFollow
@@ -149,6 +149,6 @@ pub backs_are_given_up : (D L : Type 0) (m : Meaning D) → SinceAreTaken → Mi
     → ShowsFirst packed_form → KeysGoOn D L m → OpeningsBegin → EnginesGiveUp D L m → BacksAreGivenUp D L m
 backs_are_given_up D L m since begin first_shows go_on openings give_up o h e refused point t s mid new start after k j
     asked now_asked session now_session keys rest begins grows lawful ends_lawful passing no_failure gives keep_asking
-    takes ends agree = is_given_up m since begin first_shows go_on openings o h e point t s start k asked session begins
+    takes ends plain = is_given_up m since begin first_shows go_on openings o h e point t s start k asked session begins
     give_up refused mid new after j now_asked now_session keys rest grows lawful ends_lawful passing no_failure gives
-    keep_asking takes ends agree
+    keep_asking takes ends plain

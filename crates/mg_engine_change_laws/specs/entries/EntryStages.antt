@@ -8,6 +8,7 @@ use Rattle.mg_base.specs.declared.numbers.RecId.{RecId}
 use Rattle.mg_base.specs.declared.transaction.TxState.{TxState}
 use Rattle.mg_base.specs.declared.transaction.TxState.TheVariants.{Active}
 use Rattle.mg_header.specs.declared.header.Header.{Header}
+use Rattle.mg_engine_step_laws.specs.standing.BareLaws.{bare_grown}
 use Rattle.mg_engine_step_laws.specs.writes.Knowing.{WasChanged}
 use Rattle.mg_engine_step_laws.specs.commits.ListShows.{ListsStay}
 use Rattle.mg_engine_step_laws.specs.writes.SpotLaws.{speaker_on, versions_on}
@@ -56,6 +57,7 @@ use Rattle.mg_engine_change_laws.specs.rows.PlainLaws.{grown_keeps_plain}
 use Rattle.mg_engine_change_laws.specs.rows.Tips.{KeepsTips}
 use Rattle.mg_engine_change_laws.specs.rows.WalkLaws.{others_walk_on}
 use Rattle.mg_engine_change_laws.specs.rows.Walks.{OthersWalkOn}
+use Rattle.mg_key_entry_laws.specs.KeptEntriesLaws.{entries_keep_found}
 
 -- Pages show a history, and of pages before them these: who speaks for a key is who did, whose a page is and the records
 -- on it are as they were, and what was found in the indexes of a table is found; and an index finds an entry.
@@ -168,6 +170,9 @@ module _ (one : RowsAreOne packed_coding) (one_way : StandsOneWay packed_form) (
         versions = versions_on packed_form size o h s pool later shows entered.shows.layout entered.shows.grown;
         tables = λ u is. finds_on o h s shows.layout entered.shows.layout shows.reading u entered.shows.grown
             (shows.tables u is);
+        found = entries_keep_found packed_form size (left_state everyone s.state) pool later shows.layout shows.reading
+            entered.shows s.state s.live shows.found;
+        bare = bare_grown shows.layout entered.shows.layout shows.reading entered.shows.grown shows.bare;
       };
     };
     tips = lists_stay list list size pool later refl refl keeps_tips.next keeps_tips.tips tips;

@@ -3,7 +3,7 @@
 use Rattle.std.specs.Prelude.{◌≡◌, ℕ, true, false, List, ◌∷◌, None, Some}
 use Rattle.mg_base.specs.Disk.{Meaning}
 use Rattle.mg_base.specs.Image.{Image}
-use Rattle.mg_engine_meaning_laws.specs.PlainTables.{IndexesAgree}
+use Rattle.mg_engine_meaning_laws.specs.PlainTables.{HasPlainTables}
 use Rattle.mg_engine_step_laws.specs.backs.Again.{rolling}
 use Rattle.mg_engine_step_laws.specs.backs.Midway.{LastsDead}
 use Rattle.mg_engine_change_laws.specs.tables_back.RowsLost.{LoseRows}
@@ -58,7 +58,7 @@ StopsAreGivenUp D L m = (o : Opening) (h : Entries) (e refused : Entry) (point :
     → may_last refused ≡ false → GivesUp o h refused (rolling t) t s mid new
     → KeepAsking o (rolling t ∷ refused ∷ h) asked now_asked session now_session
     → (stops : StopsReading m o h e point t s start stopped k j asked session begins) → EndsOver m start stopped j
-    → IndexesAgree start.geometry.size s.state (shown stops.mid.dirty stops.between)
+    → HasPlainTables start.geometry.size s.state (shown stops.mid.dirty stops.between)
     → Stands packed_form start.geometry.size o (rolling t ∷ refused ∷ h) new (Some (shown stopped.dirty j))
     × LastsOn m packed_form o (rolling t ∷ refused ∷ h) stopped now_asked now_session
     × LeavesSince m start.disk stopped.disk (HoldsAcknowledged packed_form start.geometry.size o h)

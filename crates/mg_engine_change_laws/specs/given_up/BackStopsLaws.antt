@@ -4,7 +4,7 @@ use Rattle.std.proofs.lemmas.Bool.{eq-eqb}
 use Rattle.mg_base.specs.Disk.{MayLeave, Meaning}
 use Rattle.mg_base.specs.Image.{Image}
 use Rattle.mg_base.specs.Moments.{joined, leaves_as}
-use Rattle.mg_engine_meaning_laws.specs.PlainTables.{IndexesAgree}
+use Rattle.mg_engine_meaning_laws.specs.PlainTables.{HasPlainTables}
 use Rattle.mg_engine_change_laws.specs.given_up.BackStops.{StopsAreGivenUp, StopsReading, WritesFailMidway}
 use Rattle.mg_base.specs.declared.transaction.TxState.{TxState}
 use Rattle.mg_engine_change_laws.specs.given_up.EngineGivenUp.{dead_now, states_now}
@@ -94,20 +94,20 @@ module _ {D L : Type 0} (m : Meaning D) (since : SinceAreTaken) (begin : Midways
       (ends_lawful : IsLawful o (refused ∷ h) (rolling t)) (passing : is_durable refused ≡ false)
       (no_failure : may_last refused ≡ false) (gives : GivesUp o h refused (rolling t) t s mid new)
       (keep_asking : KeepAsking o (rolling t ∷ refused ∷ h) asked now_asked session now_session)
-      (agree : IndexesAgree start.geometry.size s.state (shown stops.mid.dirty stops.between)) where
+      (plain : HasPlainTables start.geometry.size s.state (shown stops.mid.dirty stops.between)) where
     -- between the keys and the rows
     given_mid : Stands packed_form start.geometry.size o (rolling t ∷ refused ∷ h) new
         (Some (shown stops.mid.dirty stops.between))
     given_mid = subst (λ (n : ℕ). (stands : Stands packed_form n o h s (Some (shown start.dirty k)))
         → IsMidway m packed_form n o h e t stops.rest s start stops.mid stops.between asked session
         → ShowsMidway packed_form n o h e t whole stops.rest s (shown start.dirty k) stands.shows
-        (shown stops.mid.dirty stops.between) → IndexesAgree n s.state (shown stops.mid.dirty stops.between)
+        (shown stops.mid.dirty stops.between) → HasPlainTables n s.state (shown stops.mid.dirty stops.between)
         → Stands packed_form n o (rolling t ∷ refused ∷ h) new (Some (shown stops.mid.dirty stops.between)))
         stops.mid_ends.size
         (λ stands cache pages same. (give_up o h e refused t whole stops.rest s mid new start stops.mid k stops.between
         asked now_asked session now_session stands stops.mid_ends.pool stops.mid_ends.held grows same taken lawful ends_lawful passing
         no_failure gives keep_asking cache pages).0)
-        begins.stands at_mid.cache at_mid.pages agree
+        begins.stands at_mid.cache at_mid.pages plain
 
     states : left_state (all_but t) s.state ≡ left_state everyone new.state
     states = states_now o h refused (rolling t) t s mid new gives
@@ -206,9 +206,9 @@ pub stops_are_given_up : (D L : Type 0) (m : Meaning D) → SinceAreTaken → Mi
     → MidwaysAreGivenUp packed_form D L m → AsksOtherwise D L m packed_form → StopsAreGivenUp D L m
 stops_are_given_up D L m since begin first_shows go_on reads openings give_up midways_given otherwise o h e refused point t s mid new start
     stopped k j asked now_asked session now_session begins grows lawful ends_lawful passing no_failure gives keep_asking
-    stops ends agree = given_up m since begin first_shows go_on reads openings o h e point t s start stopped k j asked session
+    stops ends plain = given_up m since begin first_shows go_on reads openings o h e point t s start stopped k j asked session
     begins stops ends give_up midways_given otherwise refused mid new now_asked now_session grows lawful ends_lawful passing no_failure gives
-    keep_asking agree
+    keep_asking plain
 
 pub writes_fail_midway : (D L : Type 0) (m : Meaning D) → SinceAreTaken → MidwaysBegin packed_form D L m
     → ShowsFirst packed_form → KeysGoOn D L m → ReadsLast D L m packed_form → OpeningsBegin

@@ -63,14 +63,14 @@ pub engines_give_up : (D L : Type 0) (m : Meaning D) → GivenUpIsShown → Open
     → PoolIsKept packed_form D L → MidwaysAreGivenUp packed_form D L m → AsksOtherwise D L m packed_form
     → EnginesGiveUp D L m
 engines_give_up D L m is_shown begins on pool_kept given_up otherwise o h e refused t whole left s mid new start pool k
-    i has_asked now_asked session now_session stands is_pool held grows agree taken lawful ends passing no_failure gives
+    i has_asked now_asked session now_session stands is_pool held grows plain taken lawful ends passing no_failure gives
     keep_asking midway shown_ = (
       on pool.geometry.size o (refused ∷ h) (rolling t) mid new None (Some (shown pool.dirty i))
           (on pool.geometry.size o h refused s mid (Some (shown start.dirty k)) None stands lawful gives.first tt)
           ends gives.then_
           (is_shown pool.geometry.size o h e refused (rolling t) t whole left s mid new (shown start.dirty k)
           (shown pool.dirty i) stands.shows (begins o stands.opening) (ends, (lawful, stands.legal)) stands.memory
-          grows agree taken gives shown_ kept.layout kept.reading
+          grows plain taken gives shown_ kept.layout kept.reading
           (subst (λ (x : ℕ → TxState). IsSoundBy packed_form pool.geometry.size x (shown pool.dirty i) kept.layout
           kept.reading) (states_now o h refused (rolling t) t s mid new gives) kept.sound)),
       otherwise o (rolling t ∷ refused ∷ h) pool has_asked now_asked session now_session keep_asking lasting.0,

@@ -4,7 +4,7 @@ use Rattle.std.specs.Prelude.{◌≡◌, ℕ, false, List, ◌∷◌, Some}
 use Rattle.mg_base.specs.Disk.{Meaning}
 use Rattle.mg_base.specs.Image.{Image}
 use Rattle.mg_base.specs.declared.transaction.TxState.TheVariants.{Active, Dead}
-use Rattle.mg_engine_meaning_laws.specs.PlainTables.{IndexesAgree}
+use Rattle.mg_engine_meaning_laws.specs.PlainTables.{HasPlainTables}
 use Rattle.mg_engine_step_laws.specs.backs.Again.{AreTaken, rolling}
 use Rattle.mg_engine_step_laws.specs.backs.Midway.{IsMidway}
 use Rattle.mg_engine_step_laws.specs.backs.Shown.{ShowsMidway}
@@ -44,7 +44,7 @@ abbrev pub GivenUpIsShown : Type 0
 GivenUpIsShown = (size : ℕ) (o : Opening) (h : Entries) (e refused rolled : Entry) (t : ℕ)
     (whole left : List Change) (s mid new : Standing) (begun pages : Pages)
     (first : ShowsHistory packed_form size o h s begun) → MayBegin o → IsLegal o (rolled ∷ refused ∷ h)
-    → Remembers o h s → CatalogGrows o h → IndexesAgree size s.state pages → AreTaken o h e t whole
+    → Remembers o h s → CatalogGrows o h → HasPlainTables size s.state pages → AreTaken o h e t whole
     → GivesUp o h refused rolled t s mid new
     → ShowsMidway packed_form size o h e t whole left s begun first pages
     → (layout : Layout) (reading : Reading)
@@ -59,7 +59,7 @@ EnginesGiveUp D L m = (o : Opening) (h : Entries) (e refused : Entry) (t : ℕ) 
     (session now_session : Sessions)
     (stands : Stands packed_form pool.geometry.size o h s (Some (shown start.dirty k)))
     → IsPool m pool → m.held pool.disk ≡ Some i → CatalogGrows o h
-    → IndexesAgree pool.geometry.size s.state (shown pool.dirty i) → AreTaken o h e t whole
+    → HasPlainTables pool.geometry.size s.state (shown pool.dirty i) → AreTaken o h e t whole
     → IsLawful o h refused → IsLawful o (refused ∷ h) (rolling t)
     → is_durable refused ≡ false → may_last refused ≡ false
     → GivesUp o h refused (rolling t) t s mid new

@@ -5,9 +5,11 @@ use Rattle.std.proofs.lemmas.Bool.{eq-eqb, false≢true, ne_eqb}
 use Rattle.mg_base.specs.declared.numbers.RecId.{RecId}
 use Rattle.mg_base.specs.declared.transaction.TxState.{TxState}
 use Rattle.mg_base.specs.declared.transaction.TxState.TheVariants.{Active, Committed, Dead, Limbo}
-use Rattle.mg_engine_meaning_laws.specs.PlainTables.{IndexesAgree}
+use Rattle.mg_engine_meaning_laws.specs.PlainTables.{HasPlainTables}
 use Rattle.mg_engine_step_laws.specs.reads.TableAnswers.{shown_key}
 use Rattle.mg_engine_step_laws.specs.backs.Again.{AreTaken}
+use Rattle.mg_engine_step_laws.specs.standing.Bare.{IsBare}
+use Rattle.mg_engine_step_laws.specs.standing.BareLaws.{bare_by, bare_has_found}
 use Rattle.mg_engine_step_laws.specs.standing.OwnChains.{change_there, none_second, own_told}
 use Rattle.mg_engine_step_laws.specs.backs.Shown.{IsTakenBack, ShowsMidway}
 use Rattle.mg_engine_meaning_laws.specs.AlikeTables.{versions_alike}
@@ -110,7 +112,7 @@ module _ (one : RowsAreOne packed_coding) (seen_law : SeenIsNotMade) (stay : Ver
     (whole left : List Change) (s mid new : Standing) (begun pages : Pages)
     (shows : ShowsHistory packed_form size o h s begun) (opening : MayBegin o)
     (legal : IsLegal o (rolled ∷ refused ∷ h)) (memory : Remembers o h s) (grows : CatalogGrows o h)
-    (agree : IndexesAgree size s.state pages)
+    (plain : HasPlainTables size s.state pages)
     (taken : AreTaken o h e t whole) (gives : GivesUp o h refused rolled t s mid new)
     (midway : ShowsMidway packed_form size o h e t whole left s begun shows pages) (b : Layout) (q : Reading)
     (second : IsSoundBy packed_form size (left_state everyone new.state) pages b q) where
@@ -154,7 +156,7 @@ module _ (one : RowsAreOne packed_coding) (seen_law : SeenIsNotMade) (stay : Ver
 
   -- tables have the same indexes in both
   same_there : (x y : Table) → IsTableOf a x → IsTableOf b y → IsSameTable x y → x.indexes ≡ y.indexes
-  same_there = agree everyone (all_but t) a b r q midway.sound
+  same_there = plain.agree everyone (all_but t) a b r q midway.sound
       (subst (λ (x : ℕ → TxState). IsSoundBy packed_form size x pages b q)
       (sym (states_now o h refused rolled t s mid new gives)) second)
 
@@ -509,6 +511,11 @@ module _ (one : RowsAreOne packed_coding) (seen_law : SeenIsNotMade) (stay : Ver
     found : FindsTables o (rolled ∷ refused ∷ h) new b u
     found = record { seen = seen; changed = changed }
 
+  bare_now : IsBare b
+  bare_now = bare_by b (λ its there. (plain.each (all_but t) b q
+      (subst (λ (x : ℕ → TxState). IsSoundBy packed_form size x pages b q)
+      (sym (states_now o h refused rolled t s mid new gives)) second) its there).no_index)
+
   pub shows_now : ShowsHistory packed_form size o (rolled ∷ refused ∷ h) new pages
   shows_now = record {
     layout = b;
@@ -518,9 +525,11 @@ module _ (one : RowsAreOne packed_coding) (seen_law : SeenIsNotMade) (stay : Ver
         ∙ (gives.first.next ∙ ap (λ (x : Effect). next_after x s.next) gives.nothing)));
     versions = versions_now;
     tables = found;
+    found = bare_has_found packed_form size now pages b q second bare_now new.state new.live;
+    bare = bare_now;
   }
 
 pub given_up_is_shown : RowsAreOne packed_coding → SeenIsNotMade → VersionsStay → OthersKeepTables → GivenUpIsShown
 given_up_is_shown one seen_law stay keep size o h e refused rolled t whole left s mid new begun pages shows opening
-    legal memory grows agree taken gives midway layout reading sound = shows_now one seen_law stay keep size o h e refused
-    rolled t whole left s mid new begun pages shows opening legal memory grows agree taken gives midway layout reading sound
+    legal memory grows plain taken gives midway layout reading sound = shows_now one seen_law stay keep size o h e refused
+    rolled t whole left s mid new begun pages shows opening legal memory grows plain taken gives midway layout reading sound

@@ -299,7 +299,7 @@ module _ {D P : Type 0} (m : Meaning D) (places : Places P) (known : KnownOfBack
         shows.image image (asked_in (with_work t.0 unasked old.works)) (asked_in (without_work t.0 old.works))
         (sessions_in old.works) (sessions_in (without_work t.0 old.works)) begins_so stands.grows lawful ends_lawful
         passing no_failure gives asks (stops_reading m known old begun stopped t point undo refusal core has_begun stops o h stands stopped.store keeps) its_end
-        (lists_mid.plain shows.plain_tables).agree
+        (lists_mid.plain shows.plain_tables)
 
     -- ---- what it stands for
 

@@ -11,6 +11,8 @@ use Rattle.mg_value.specs.declared.value.Value.{Value}
 use Rattle.mg_chain.specs.Writing.{GivesSpot}
 use Rattle.mg_tie_laws.specs.SpotRowTies.{HasSpotFor}
 use Rattle.mg_engine_step_laws.specs.commits.ListShows.{BehindKeepsTips, ListsStay, TipsStayOn}
+use Rattle.mg_engine_step_laws.specs.standing.Bare.{IsBare}
+use Rattle.mg_engine_step_laws.specs.standing.BareLaws.{bare_grown, bare_has_found}
 use Rattle.mg_engine_step_laws.specs.writes.Batches.{RowsLastStill}
 use Rattle.mg_engine_step_laws.specs.writes.Reads.{grown_to}
 use Rattle.mg_engine_step_laws.specs.writes.Writes.{IsSilentAt}
@@ -205,6 +207,9 @@ module _ (one : RowsAreOne packed_coding) (one_way : StandsOneWay packed_form) (
   keeps_tips = growth_keeps_tips on behind packed_form one none_in size o h state pool later shows.layout shows.reading
       table (lists batch.orders) (content_in batch.pages) end more.final (kept_each everyone) shows.sound grows ends
 
+  bare_on : IsBare stood.layout
+  bare_on = bare_grown shows.layout stood.layout shows.reading stood.grown shows.bare
+
   spot_now : HasSpotOf size o h s list (shown after.dirty j) table at name key
   spot_now = record {
     stands = record {
@@ -222,6 +227,8 @@ module _ (one : RowsAreOne packed_coding) (one_way : StandsOneWay packed_form) (
           others = others_on;
         };
         tables = λ u is. finds_on o h s shows.layout stood.layout shows.reading u stood.grown (shows.tables u is);
+        found = bare_has_found packed_form size state later stood.layout shows.reading stood.sound bare_on s.state s.live;
+        bare = bare_on;
       };
     };
     tips = lists_stay list list size pool later refl refl keeps_tips.next keeps_tips.tips tips;

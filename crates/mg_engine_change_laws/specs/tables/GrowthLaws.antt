@@ -10,6 +10,8 @@ use Rattle.mg_base.specs.declared.transaction.TxState.{TxState}
 use Rattle.mg_base.specs.declared.transaction.TxState.TheVariants.{Active}
 use Rattle.mg_tie_laws.specs.Rows.{ForEach}
 use Rattle.mg_engine_step_laws.specs.commits.ListShows.{BehindKeepsTips, ListsStay, TipsStayOn}
+use Rattle.mg_engine_step_laws.specs.standing.Bare.{IsBare}
+use Rattle.mg_engine_step_laws.specs.standing.BareLaws.{bare_grown, bare_has_found}
 use Rattle.mg_engine_step_laws.specs.writes.Batches.{RowsLastStill}
 use Rattle.mg_engine_step_laws.specs.writes.Reads.{grown_bits, grown_to}
 use Rattle.mg_engine_step_laws.specs.standing.Standing.{ShowsHistory, Standing, Stands}
@@ -168,6 +170,9 @@ module _ (one : RowsAreOne packed_coding) (one_way : StandsOneWay packed_form) (
   keeps_tips = growth_keeps_tips on behind packed_form one none_in size o h state pool later shows.layout shows.reading
       cat (lists batch.orders) (content_in batch.pages) end more.final (kept_each everyone) shows.sound grows ends
 
+  bare_on : IsBare stood.layout
+  bare_on = bare_grown shows.layout stood.layout shows.reading stood.grown shows.bare
+
   stands_now : Stands packed_form before.geometry.size o h s (Some (shown after.dirty j))
   stands_now = record {
     opening = stands.opening;
@@ -180,6 +185,9 @@ module _ (one : RowsAreOne packed_coding) (one_way : StandsOneWay packed_form) (
       next = kept_bits.next ∙ shows.next;
       versions = versions_on packed_form size o h s pool later shows stood.layout stood.grown;
       tables = λ u is. finds_on o h s shows.layout stood.layout shows.reading u stood.grown (shows.tables u is);
+      found = bare_has_found packed_form before.geometry.size state later stood.layout shows.reading stood.sound bare_on
+          s.state s.live;
+      bare = bare_on;
     };
   }
 

@@ -67,6 +67,8 @@ use Rattle.mg_engine_change_laws.specs.tables.Remembering.{NotesRows, RowsAreRem
 use Rattle.mg_engine_change_laws.specs.tables.Rows.{AreLawful, AreUnwritten, MadeRow, MayMake, reading_with, row_entry, row_told, with_rows}
 use Rattle.mg_engine_change_laws.specs.tables.Seen.{MadeAreSeen, SeesMade}
 use Rattle.mg_engine_step_laws.specs.commits.ListShows.{ListsStay}
+use Rattle.mg_engine_step_laws.specs.standing.Bare.{IsBare}
+use Rattle.mg_engine_step_laws.specs.standing.BareLaws.{bare_by, bare_has_found}
 use Rattle.mg_engine_step_laws.specs.standing.Standing.{HasFirstPage, IsSeenAs, Remembers, RemembersOne, Standing, Stands}
 use Rattle.mg_engine_meaning_laws.specs.FrameLaws.{kept_all}
 use Rattle.mg_engine_meaning_laws.specs.Frames.{WorksStay}
@@ -474,6 +476,10 @@ module _ (one_way : StandsOneWay packed_form) (begins : OpeningsBegin) (seen_law
           (ap (λ (cs : List OwnChange). has_change cs n key) (sym (others_newest o t made.joined.made h u ne))
           ∙ (ap (λ (rows : List Cells). has_change (own o (with_rows t rows h) u) n key) made.told ∙ has))))
 
+  bare_now : IsBare layout_now
+  bare_now = bare_by layout_now (λ its there. (made.plain.each everyone layout_now
+      (reading_with made.joined.made shows.stands.shows.reading) made.sound its there).no_index)
+
   stands_now : Stands packed_form core.store.geometry.size o entries_now s_now (Some (shown after.dirty j))
   stands_now = record {
     opening = shows.stands.opening;
@@ -486,6 +492,9 @@ module _ (one_way : StandsOneWay packed_form) (begins : OpeningsBegin) (seen_law
       next = made.next ∙ shows.stands.shows.next;
       versions = made.versions;
       tables = λ u also. record { seen = found_seen u also; changed = found_changed u also };
+      found = bare_has_found packed_form core.store.geometry.size (left_state everyone s_now.state) (shown after.dirty j)
+          layout_now (reading_with made.joined.made shows.stands.shows.reading) made.sound bare_now s_now.state s_now.live;
+      bare = bare_now;
     };
   }
 

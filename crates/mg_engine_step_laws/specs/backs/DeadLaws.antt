@@ -8,6 +8,8 @@ use Rattle.mg_chain.specs.Writing.{TakesOut}
 use Rattle.mg_tie_laws.specs.BackTies.{has_slot, orders_out, pages}
 use Rattle.mg_tie_laws.specs.Newest.{newest_found, newest_placed}
 use Rattle.mg_tie_laws.specs.Rows.{ForEach}
+use Rattle.mg_engine_step_laws.specs.standing.Bare.{IsBare}
+use Rattle.mg_engine_step_laws.specs.standing.BareLaws.{bare_grown, bare_has_found}
 use Rattle.mg_engine_step_laws.specs.writes.Batches.{RowsLastStill}
 use Rattle.mg_engine_step_laws.specs.writes.GoesOnLaws.{taking_out_is_read}
 use Rattle.mg_engine_step_laws.specs.writes.Writes.{ReadsAfter}
@@ -370,6 +372,9 @@ module _ (D L : Type 0) (m : Meaning D) (form : Form) (one : RowsAreOne form.cod
   cache = last o h before after i j batch asked session (begins o stands.opening) stands.legal lasts
       (row_changed m form o h s before after i j batch asked session stands.memory was lasts h reads.1 kept)
 
+  bare_on : IsBare reads.0.layout
+  bare_on = bare_grown shows.layout reads.0.layout shows.reading reads.0.grown shows.bare
+
   pub dead_goes : HasStayed m form size o h s before after j asked session
   dead_goes = record {
     stands = record {
@@ -385,6 +390,9 @@ module _ (D L : Type 0) (m : Meaning D) (form : Form) (one : RowsAreOne form.cod
             it.first (ap (λ (w : Version). s.state w.tx.0) it.version ∙ dead) reads.0;
         tables = λ u is. finds_on o h s shows.layout reads.0.layout shows.reading u reads.0.grown
             (shows.tables u is);
+        found = bare_has_found form size state (shown after.dirty j) reads.0.layout reads.0.reading reads.0.sound bare_on
+            s.state s.live;
+        bare = bare_on;
       };
     };
     lasts = cache.0;

@@ -4,6 +4,8 @@ use Rattle.mg_base.specs.declared.numbers.RecId.{RecId}
 use Rattle.mg_base.specs.declared.transaction.TxState.{TxState}
 use Rattle.mg_base.specs.declared.transaction.TxState.TheVariants.{Dead}
 use Rattle.mg_engine_step_laws.specs.backs.DeadRows.{DeadRowsGo}
+use Rattle.mg_engine_step_laws.specs.standing.Bare.{IsBare}
+use Rattle.mg_engine_step_laws.specs.standing.BareLaws.{bare_has_found}
 use Rattle.mg_engine_step_laws.specs.tables_back.Outs.{GoesWhole}
 use Rattle.mg_engine_step_laws.specs.backs.ShownEnd.{spoken_if, still_spoken}
 use Rattle.mg_engine_step_laws.specs.standing.Standing.{FindsTables, ShowsHistory, Standing}
@@ -114,6 +116,8 @@ module _ (form : Form) (size : ℕ) (o : Opening) (h : Entries) (s : Standing) (
       others = others_on;
     };
     tables = λ t active. subst (λ (l : Layout). FindsTables o h s l t) same (shows.tables t active);
+    found = bare_has_found form size state later c rc sound (subst IsBare same shows.bare) s.state s.live;
+    bare = subst IsBare same shows.bare;
   }
 
 pub dead_rows_go : (form : Form) → DeadRowsGo form

@@ -2,6 +2,7 @@
 use Rattle.mg_base.specs.declared.numbers.RecId.{RecId}
 use Rattle.mg_base.specs.declared.transaction.TxState.TheVariants.{Active}
 use Rattle.mg_engine_step_laws.specs.backs.Again.{AreTaken, without_key}
+use Rattle.mg_engine_step_laws.specs.standing.Bare.{IsBare}
 use Rattle.mg_engine_step_laws.specs.writes.Writes.{ReadsAfter}
 use Rattle.mg_generation_laws.specs.After.{generations_back}
 use Rattle.mg_image.specs.Form.{Form, Pages}
@@ -56,6 +57,7 @@ pub record ShowsMidway (form : Form) (size : ℕ) (o : Opening) (h : Entries) (e
       → (table_at (stands_of first.layout) p.page.0 ≡ Some table)
       ⊎ ((first.reading p ≡ []) × (reading p ≡ []))
   pub tables : (u : ℕ) → s.state u ≡ Active → FindsTables o h s layout u
+  pub bare : IsBare layout
   pub each_record : (p : RecId) → (reading p ≡ first.reading p)
       ⊎ IsTakenBack o h e t (facts_by (left_state everyone s.state) begun first.layout) first.reading reading
       first.versions.speaker p

@@ -3,6 +3,7 @@ use Rattle.mg_base.specs.declared.numbers.RecId.{RecId}
 use Rattle.mg_base.specs.declared.transaction.TxState.{TxState}
 use Rattle.mg_base.specs.declared.transaction.TxState.TheVariants.{Active}
 use Rattle.mg_engine_step_laws.specs.backs.Again.{AreTaken}
+use Rattle.mg_engine_step_laws.specs.standing.BareLaws.{bare_has_found}
 use Rattle.mg_engine_step_laws.specs.standing.OwnChains.{IsOwnTold, change_there, newest_second, none_second, own_told, row_of, row_there}
 use Rattle.mg_engine_step_laws.specs.backs.Shown.{IsTakenBack, ShowsBack, ShowsFirst, ShowsMidway}
 use Rattle.mg_generation_laws.specs.After.{generations_after, generations_back, generations_with, key_made}
@@ -294,6 +295,9 @@ module _ (form : Form) (size : ℕ) (o : Opening) (h : Entries) (e : Entry) (poi
     versions = subst (λ (x : ℕ → TxState). HaveVersions o (e ∷ h) (facts_by x pages shown_.layout) shown_.reading)
         (sym state_is) versions_back;
     tables = λ u its. at u its (finds shown_.layout shown_.reading sound_now u its);
+    found = bare_has_found form size (left_state everyone new.state) pages shown_.layout shown_.reading sound_now
+        shown_.bare new.state new.live;
+    bare = shown_.bare;
   }
     where
       at : (u : ℕ) → new.state u ≡ Active
@@ -317,6 +321,7 @@ pages_first form size o h e t whole s pages first = record {
   stays = λ p table is. is;
   new = λ p table is. inl is;
   tables = first.tables;
+  bare = first.bare;
   each_record = λ p. inl refl;
   not_yet = λ name key c is p spoken. refl;
   done = λ name key some none. absurd (some none);

@@ -2,6 +2,7 @@
 use Rattle.mg_base.specs.declared.numbers.RecId.{RecId}
 use Rattle.mg_engine_step_laws.specs.backs.Again.{without_else, without_here, without_key}
 use Rattle.mg_engine_step_laws.specs.backs.Shown.{IsTakenBack, ShowsMidway, ShowsOnward, TakesKeyBack}
+use Rattle.mg_engine_step_laws.specs.standing.BareLaws.{bare_grown}
 use Rattle.mg_engine_step_laws.specs.writes.WritesLaws.{finds_on}
 use Rattle.mg_generation_laws.specs.After.{generations_back}
 use Rattle.mg_image.specs.Form.{Form, Pages}
@@ -142,6 +143,7 @@ module _ (form : Form) (size : ℕ) (o : Opening) (h : Entries) (e : Entry) (t :
     new = λ p x is. new_at p x is (takes.reads.grown.new p.page.0 x is) (same_or p);
     tables = λ u is. finds_on o h s midway.layout takes.reads.layout midway.reading u takes.reads.grown
         (midway.tables u is);
+    bare = bare_grown midway.layout takes.reads.layout midway.reading takes.reads.grown midway.bare;
     each_record = λ p. record_at p (same_or p);
     not_yet = λ n k x is p spoken. todo_at n k x is p spoken (same_or p);
     done = λ n k some none p spoken. done_at n k some none p spoken (same_or p)

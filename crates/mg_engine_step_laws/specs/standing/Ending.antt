@@ -17,6 +17,7 @@ use Rattle.mg_image.specs.Records.{Reading, writer}
 use Rattle.mg_image.specs.Sound.{IsSoundBy, facts_by}
 use Rattle.mg_image.specs.Tables.{Layout}
 use Rattle.mg_overlay_laws.specs.Overlays.{left_state}
+use Rattle.mg_engine_step_laws.specs.standing.Bare.{IsBare}
 use Rattle.mg_engine_step_laws.specs.standing.Standing.{FindsTables, ShowsHistory, Standing}
 use Rattle.mg_seek.specs.Histories.{told_versions}
 use Rattle.mg_engine_step_laws.specs.standing.Versions.{HaveVersions}
@@ -65,6 +66,7 @@ pub record PagesWritten (form : Form) (size : ℕ) (o : Opening) (h : Entries) (
       shows.versions.speaker t name key row place
   pub next : next_of later ≡ new.next
   pub tables : (u : ℕ) → new.state u ≡ Active → FindsTables o (e ∷ h) new layout u
+  pub bare : IsBare layout
 
 -- they show the longer history
 abbrev pub WritesShow : Form → Type 0

@@ -24,6 +24,7 @@ use Rattle.mg_image.specs.Records.{Reading, record_key, writer}
 use Rattle.mg_image.specs.Sound.{facts_by}
 use Rattle.mg_image_overlay_laws.specs.records.Fronts.{is_dead}
 use Rattle.mg_overlay_laws.specs.Overlays.{left_state}
+use Rattle.mg_engine_step_laws.specs.standing.BareLaws.{bare_has_found}
 use Rattle.mg_engine_step_laws.specs.standing.ChainLaws.{erased_still}
 use Rattle.mg_engine_step_laws.specs.standing.Ending.{Dies, GoesWithTable, StaysRecord, VersionsDie, WritesShow}
 use Rattle.mg_engine_step_laws.specs.standing.StandingLaws.{IsChainOf}
@@ -172,4 +173,7 @@ writes_show form size o h e s new pages later shows t name key row opening legal
       (facts_by (left_state everyone new.state) later written.layout) shows.reading written.reading t name
       key row written.place shows.versions opening legal written.writes written.record_;
   tables = written.tables;
+  found = bare_has_found form size (left_state everyone new.state) later written.layout written.reading written.sound
+      written.bare new.state new.live;
+  bare = written.bare;
 }

@@ -18,6 +18,7 @@ use Rattle.mg_image.specs.Sound.{IsSoundBy, facts_by}
 use Rattle.mg_image.specs.Tables.{Layout, stands_of}
 use Rattle.mg_image_overlay_laws.specs.records.Fronts.{is_dead, living}
 use Rattle.mg_overlay_laws.specs.Overlays.{left_by, left_state}
+use Rattle.mg_engine_step_laws.specs.standing.BareLaws.{bare_has_found}
 use Rattle.mg_engine_step_laws.specs.standing.Following.{KeepsTables, ShowsOn}
 use Rattle.mg_engine_step_laws.specs.standing.Standing.{FindsTables, HasFirstPage, Standing}
 use Rattle.mg_engine_step_laws.specs.standing.VersionsLaws.{versions_stay_by}
@@ -72,6 +73,9 @@ shows_on form size o h e s new pages later opening legal stay shows = record {
       (facts_by (left_state everyone new.state) later shows.layout) shows.reading opening legal
       stay.quiet (λ n. refl) living_same shows.versions;
   tables = λ t active. at t (stay.tables shows.layout shows.reading sound t active);
+  found = bare_has_found form size (left_state everyone new.state) later shows.layout shows.reading sound shows.bare
+      new.state new.live;
+  bare = shows.bare;
 }
   where
     sound : IsSoundBy form size (left_state everyone new.state) later shows.layout shows.reading

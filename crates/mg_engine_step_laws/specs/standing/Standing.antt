@@ -23,9 +23,11 @@ use Rattle.mg_image.specs.Form.{Form, Pages}
 use Rattle.mg_image.specs.Inventory.{next_of}
 use Rattle.mg_image.specs.Records.{Reading}
 use Rattle.mg_image.specs.Sound.{IsSoundBy, facts_by}
-use Rattle.mg_image.specs.Tables.{Layout, Stand, stands_of}
+use Rattle.mg_image.specs.Tables.{Layout, Stand, stands_of, table_at}
+use Rattle.mg_key_entry_laws.specs.KeptEntries.{HasFound}
 use Rattle.mg_image_overlay_laws.specs.tables.TableOwners.{IsOneOf}
 use Rattle.mg_overlay_laws.specs.Overlays.{left_state}
+use Rattle.mg_engine_step_laws.specs.standing.Bare.{IsBare}
 use Rattle.mg_engine_step_laws.specs.standing.Based.{AreBased}
 use Rattle.mg_engine_step_laws.specs.standing.Versions.{HaveVersions}
 
@@ -99,7 +101,7 @@ pub record FindsTables (o : Opening) (h : Entries) (s : Standing) (layout : Layo
         → HasFirstPage (stands_of layout) name (s.number t name)
 
 -- The pages as the cache shows them are a sound image, where each active transaction counts as in
--- limbo, and their records have the versions that the history says.
+-- limbo, their records have the versions that the history says, and the indexes what a keeper asks of them.
 pub record ShowsHistory (form : Form) (size : ℕ) (o : Opening) (h : Entries) (s : Standing)
     (pages : Pages) : Type 0 where
   pub layout : Layout
@@ -108,6 +110,10 @@ pub record ShowsHistory (form : Form) (size : ℕ) (o : Opening) (h : Entries) (
   pub next : next_of pages ≡ s.next
   pub versions : HaveVersions o h (facts_by (left_state everyone s.state) pages layout) reading
   pub tables : (t : ℕ) → s.state t ≡ Active → FindsTables o h s layout t
+  -- what active transactions see is found in the indexes, and the keys of records whose deletion counts in the primary ones
+  pub found : HasFound s.state s.live (table_at (stands_of layout)) pages reading
+  -- no table has an index yet: that carries `found` wherever no law of its own does
+  pub bare : IsBare layout
 
 -- the same, where the pages are known: the disk tells its images, and no page write has failed
 abbrev pub ShowsIfKnown : Form → ℕ → Opening → Entries → Standing → Option Pages → Type 0

@@ -30,6 +30,8 @@ use Rattle.mg_image.specs.Records.{Reading, record_key, shown, writer}
 use Rattle.mg_image.specs.Sound.{IsSoundBy, facts_by}
 use Rattle.mg_image.specs.Tables.{Layout}
 use Rattle.mg_overlay_laws.specs.Overlays.{left_by, left_state}
+use Rattle.mg_engine_step_laws.specs.standing.Bare.{IsBare}
+use Rattle.mg_engine_step_laws.specs.standing.BareLaws.{bare_has_found}
 use Rattle.mg_engine_step_laws.specs.standing.Following.{IsFirst, MemoryBegins}
 use Rattle.mg_engine_step_laws.specs.standing.Speakers.{here_from, here_to, is_in_limbo, none_takes, speaker, speaker_takes, taker_speaks, takes_key, takes_not, takes_some}
 use Rattle.mg_engine_step_laws.specs.standing.Standing.{Standing, Stands}
@@ -38,10 +40,12 @@ use Rattle.mg_seek.specs.Histories.{told_versions}
 use Rattle.mg_engine_step_laws.specs.standing.Versions.{HaveVersions, SpeaksFor, SpeaksOrSilent}
 
 -- an engine over an image that gives this opening stands for the history without entries, where memory is
--- as it says
+-- as it says, and no table has an index
 abbrev pub StandsFirst : Form → Type 0
 StandsFirst form = (size : ℕ) (o : Opening) (s : Standing) (pages : Pages) (opened : Opened)
     → IsOpened form size pages opened → Begins opened o → IsOpening o → IsFirst o s
+    → ((layout : Layout) (r : Reading) → IsSoundBy form size (left_state everyone s.state) pages layout r
+    → IsBare layout)
     → Stands form size o [] s (Some pages)
 
 -- ---- silent records
@@ -168,14 +172,14 @@ unfolding state_at
 past_first size pages t above some_ = rw (ne_eqb t 0 some_, le-ltb t (next_of pages) above) refl
 
 pub stands_first : (form : Form) → OpeningsBegin → MemoryBegins → StandsFirst form
-stands_first form begin remember size o s pages opened is begins whole first = record {
+stands_first form begin remember size o s pages opened is begins whole first bare = record {
   opening = whole;
   legal = tt;
   memory = remember o s whole first;
   shows = record {
     layout = is.layout;
     reading = is.reading;
-    sound = subst (λ (x : ℕ → TxState). IsSoundBy form size x pages is.layout is.reading) (sym same) sound;
+    sound = sound_here;
     next = sym is.next ∙ (begins.next ∙ sym first.next);
     versions = subst (λ (x : ℕ → TxState). HaveVersions o [] (facts_by x pages is.layout) is.reading)
         (sym same) (first_versions o whole opening form size pages opened is.layout is.reading sound
@@ -184,6 +188,9 @@ stands_first form begin remember size o s pages opened is begins whole first = r
         (subst (λ (x : ℕ → TxState). AreChanges (facts_by x pages is.layout) is.reading opened.limbo)
         states is.limbo) begins);
     tables = λ t active. absurd (whole.ended t (sym (first.state t) ∙ active));
+    found = bare_has_found form size (state_at size pages) pages is.layout is.reading is.sound
+        (bare is.layout is.reading sound_here) s.state s.live;
+    bare = bare is.layout is.reading sound_here;
   };
 }
   where
@@ -220,3 +227,6 @@ stands_first form begin remember size o s pages opened is begins whole first = r
 
     same : left_state everyone s.state ≡ opening_state o
     same = fun_ext (λ t. ap (left_by true) (first.state t) ∙ left (opening_state o t) (whole.ended t))
+
+    sound_here : IsSoundBy form size (left_state everyone s.state) pages is.layout is.reading
+    sound_here = subst (λ (x : ℕ → TxState). IsSoundBy form size x pages is.layout is.reading) (sym same) sound

@@ -7,6 +7,8 @@ use Rattle.mg_base.specs.declared.transaction.TxState.{TxState}
 use Rattle.mg_base.specs.declared.transaction.TxState.TheVariants.{Active}
 use Rattle.mg_header.specs.HeaderPage.{header_in}
 use Rattle.mg_value.specs.declared.value.Value.{Value}
+use Rattle.mg_engine_step_laws.specs.standing.Bare.{IsBare}
+use Rattle.mg_engine_step_laws.specs.standing.BareLaws.{bare_has_found, bare_left}
 use Rattle.mg_engine_step_laws.specs.standing.Following.{FollowsEntry, OthersKeepTables}
 use Rattle.mg_engine_step_laws.specs.standing.ShowsLaws.{tables_kept}
 use Rattle.mg_engine_step_laws.specs.standing.Standing.{FindsTables, Remembers, ShowsHistory, Standing}
@@ -90,6 +92,9 @@ module _ (one : RowsAreOne packed_form.coding) (no_pages : HasNoSequences packed
           opening legal grows back memory active taken follows midway.sound it within fresh not_seen there none_left u ne
           was (midway.tables u was))
 
+  bare_then : IsBare (layout_left gone midway.layout it.c)
+  bare_then = bare_left gone midway.layout.tables midway.bare
+
   pub shows_left_by : ShowsHistory packed_form size o (e ∷ h) new later
   shows_left_by = record {
     layout = layout_left gone midway.layout it.c;
@@ -103,6 +108,9 @@ module _ (one : RowsAreOne packed_form.coding) (no_pages : HasNoSequences packed
         (versions_left packed_form one no_pages size o h e point t whole left s begun pages later first midway gone opening
         legal back memory active taken it nothing);
     tables = tables;
+    found = bare_has_found packed_form size (left_state everyone s.state) later (layout_left gone midway.layout it.c)
+        (reading_left gone midway.layout it.c midway.reading it.rc) it.sound bare_then new.state new.live;
+    bare = bare_then;
   }
 
 pub shows_left : RowsAreOne packed_form.coding → HasNoSequences packed_form → OthersKeepTables → BasesAreWithin

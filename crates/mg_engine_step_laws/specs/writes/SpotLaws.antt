@@ -6,6 +6,8 @@ use Rattle.mg_base.specs.declared.transaction.TxState.{TxState}
 use Rattle.mg_base.specs.declared.transaction.TxState.TheVariants.{Active}
 use Rattle.mg_chain.specs.Writing.{GivesSpot}
 use Rattle.mg_tie_laws.specs.SpotRowTies.{HasSpotFor, spot_row_gives_for}
+use Rattle.mg_engine_step_laws.specs.standing.Bare.{IsBare}
+use Rattle.mg_engine_step_laws.specs.standing.BareLaws.{bare_grown, bare_has_found}
 use Rattle.mg_engine_step_laws.specs.writes.Batches.{RowsLastStill}
 use Rattle.mg_engine_step_laws.specs.writes.Reads.{grown_bits, grown_to}
 use Rattle.mg_engine_step_laws.specs.writes.WritesLaws.{finds_on}
@@ -149,6 +151,9 @@ module _ (D L : Type 0) (m : Meaning D) (form : Form) (one : RowsAreOne form.cod
   cache = last o h before after i j batch asked session (begins o stands.opening) stands.legal lasts
       (row_changed m form o h s before after i j batch asked session stands.memory was lasts h bits spot.kept)
 
+  bare_on : IsBare to.layout
+  bare_on = bare_grown shows.layout to.layout shows.reading to.grown shows.bare
+
   pub spot_stays : HasPlace m form size o h s before after j asked session table place
   spot_stays = record {
     stays = record {
@@ -163,6 +168,9 @@ module _ (D L : Type 0) (m : Meaning D) (form : Form) (one : RowsAreOne form.cod
           next = bits.next ∙ shows.next;
           versions = versions_on form size o h s pool (shown after.dirty j) shows to.layout to.grown;
           tables = λ u is. finds_on o h s shows.layout to.layout shows.reading u to.grown (shows.tables u is);
+          found = bare_has_found form size state (shown after.dirty j) to.layout shows.reading to.sound bare_on s.state
+              s.live;
+          bare = bare_on;
         };
       };
       lasts = cache.0;

@@ -31,6 +31,7 @@ use Rattle.mg_image.specs.Tables.{Layout, Stand, stands_of}
 use Rattle.mg_image_overlay_laws.specs.records.Fronts.{is_dead, living}
 use Rattle.mg_overlay_laws.specs.Overlays.{left_by, left_state}
 use Rattle.mg_image_overlay_laws.specs.tables.Growing.{HasGrown, IsTableOf}
+use Rattle.mg_engine_step_laws.specs.standing.BareLaws.{bare_grown}
 use Rattle.mg_engine_step_laws.specs.standing.EndingLaws.{writes_show}
 use Rattle.mg_engine_step_laws.specs.standing.Following.{FollowsEntry, StandsOn}
 use Rattle.mg_engine_step_laws.specs.standing.StandingLaws.{IsChainOf}
@@ -313,6 +314,7 @@ module _ (form : Form) (size : ℕ) (o : Opening) (h : Entries) (e : Event) (s n
         record_ = record_by have spoke rest;
         next = written.next ∙ sym next;
         tables = λ u active. finds_after legal follows u active;
+        bare = bare_grown shows.layout written.reads.layout shows.reading written.reads.grown shows.bare;
       })
 
   pub shows_written : MayBegin o → IsLegal o (e ∷ h) → FollowsEntry o h e s new → new.next ≡ s.next
