@@ -49,7 +49,8 @@ use Rattle.mg_exec.specs.declared.phase.Phase.TheVariants as phases
 use Rattle.mg_exec.specs.declared.phase.Step.{Step}
 use Rattle.mg_exec.specs.declared.phase.Step.TheVariants.{More}
 use Rattle.mg_exec.specs.declared.phase.Turn.{Turn}
-use Rattle.mg_exec.specs.Phases.{AllKeptMayStand, AllMayStand, HasRead, IsBoundTo, IsReadyToRead, Leaves, ended, filter_in, refusal_of, rolled_back_at}
+use Rattle.mg_plan.specs.Plans.{filter_in}
+use Rattle.mg_exec.specs.Phases.{AllKeptMayStand, AllMayStand, HasRead, IsBoundTo, IsReadyToRead, Leaves, ended, refusal_of, rolled_back_at}
 use Rattle.mg_exec.specs.Progress.{IsBehind}
 use Rattle.mg_exec.specs.Reading.{AreInOrder, Ends, IsWhatIsFound, in_order, no_memory, Finds, GoesOnWith, KeepsRow, Reads, comes_on, finds, faults, stops, find_of, rows_found, passes_of}
 use Rattle.mg_exec.specs.Selecting.{answer_told}

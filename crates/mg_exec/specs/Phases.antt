@@ -3,11 +3,9 @@ use Rattle.std.specs.Prelude.{◌≡◌, ◌≢◌, ◌==◌, ℕ, ◌&&◌, Boo
 use Rattle.std.specs.List.{list_any}
 use Rattle.mg_value.specs.Names.{IsName}
 use Rattle.mg_value.specs.declared.shape.Shape.{Shape}
-use Rattle.mg_expr.specs.declared.expr.Expr.{Expr}
-use Rattle.mg_statements.specs.declared.statement.Statement.{Statement}
-use Rattle.mg_statements.specs.declared.statement.Statement.TheVariants as statements
 use Rattle.mg_statements.specs.Plain.{Plain, Table as Creation, Insert, Update, Delete, Totals, Select, plain_of, tree_in}
 use Rattle.mg_plan.specs.declared.bound.Bound.{Bound}
+use Rattle.mg_plan.specs.Plans.{filter_in}
 use Rattle.mg_plan.specs.Statements.{is_typed}
 use Rattle.mg_model.specs.declared.opening.Opening.{Opening}
 use Rattle.mg_model.specs.declared.refusal.Refusal.{Refusal}
@@ -34,14 +32,6 @@ use Rattle.mg_exec.specs.declared.phase.Phase.TheVariants as phases
 use Rattle.mg_exec.specs.declared.phase.Turn.{Turn}
 
 -- ---- the parts of a statement
-
--- the filter of a statement, none where it has none
-abbrev pub filter_in : Statement → Option Expr
-filter_in (statements.Update table sets filter) = filter
-filter_in (statements.Delete table filter) = filter
-filter_in (statements.Totals table aggs filter) = filter
-filter_in (statements.Select table values filter sorted) = filter
-filter_in s = None
 
 -- it is an INSERT; it is a SELECT, of expressions or of totals; it finds rows before it goes on
 abbrev pub is_insert : Plain → Bool

@@ -31,7 +31,8 @@ use Rattle.mg_exec.specs.declared.phase.Step.{Step}
 use Rattle.mg_exec.specs.declared.phase.Step.TheVariants.{More}
 use Rattle.mg_exec.specs.declared.phase.Turn.{Turn}
 use Rattle.mg_exec.specs.Changing.{StartsToWrite}
-use Rattle.mg_exec.specs.Phases.{HasRead, ended, filter_in, is_select}
+use Rattle.mg_plan.specs.Plans.{filter_in}
+use Rattle.mg_exec.specs.Phases.{HasRead, ended, is_select}
 use Rattle.mg_rows.specs.Answering.{Answers}
 use Rattle.mg_exec.specs.Selecting.{answer_told}
 

@@ -1,25 +1,10 @@
 //! The parts of a bound statement.
 
-ghost use Rattle.std.specs.Prelude.{◌≡◌, None};
+ghost use Rattle.std.specs.Prelude.{◌≡◌};
 ghost use Rattle.mg_statements.specs.Plain.{plain_of};
-ghost use Rattle.mg_exec.specs.Phases.{filter_in, is_insert as is_insert_test, is_select as is_select_test, is_writing as is_writing_test};
+ghost use Rattle.mg_exec.specs.Phases.{is_insert as is_insert_test, is_select as is_select_test, is_writing as is_writing_test};
 
-use mg_expr::Expr;
 use mg_statements::Statement;
-
-/// The filter of a statement; `none`, which is none, where it has none.
-pub fn filter_of<'a>(s: &'a Statement, none: &'a Option<Expr>) -> &'a Option<Expr>
-    requires { none.now ≡ None }
-    ensures { result.now ≡ filter_in s.now }
-{
-    match s {
-        Statement::Update { filter, .. } => filter,
-        Statement::Delete { filter, .. } => filter,
-        Statement::Totals { filter, .. } => filter,
-        Statement::Select { filter, .. } => filter,
-        _ => none,
-    }
-}
 
 /// Tells whether a statement is an INSERT.
 pub fn is_insert(s: &Statement) -> bool

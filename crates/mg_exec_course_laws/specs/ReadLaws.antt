@@ -41,7 +41,8 @@ use Rattle.mg_rows.specs.NewRows.{before, new_row, updated}
 use Rattle.mg_exec.specs.declared.phase.Turn.{Turn}
 use Rattle.mg_exec.specs.Changing.{StartsToWrite, begins, makes_none}
 use Rattle.mg_exec.specs.Making.{MakesNone, changes_of, made_by, writes_made}
-use Rattle.mg_exec.specs.Phases.{StandsAt, ended, filter_in, is_select}
+use Rattle.mg_plan.specs.Plans.{filter_in}
+use Rattle.mg_exec.specs.Phases.{StandsAt, ended, is_select}
 use Rattle.mg_exec.specs.Reading.{Finds, GoesOnWith, Reads, answers, comes_on, faults as faults_on, finds as finds_all, find_of, rows_found as found_there, stops as stops_so, writes}
 use Rattle.mg_exec.specs.Running.{is_rolled_back_at}
 use Rattle.mg_exec.specs.Selecting.{answer_told}

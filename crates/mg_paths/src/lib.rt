@@ -13,10 +13,11 @@
 //! The law (`a_plan_covers_its_filter`): a row whose value lies outside of the range is dropped by the filter, and no
 //! part of it faults before. So a plan changes no answer.
 //!
-//! Definitions: `specs/Ranges` (what lies in a range), `Plans` (the rule), `Covering` (the law); `CoverLaws` proves it.
+//! Definitions: `specs/Ranges` (what lies in a range), `Within` (the rows that do, and those to which a plan comes), `Plans`
+//! (the rule), `Covering` (the law); `CoverLaws` proves it, `PlannedLaws` that the index of a plan is one of the table's.
 //!
 //! Invariant: none, it keeps no state.
-//! Below: `mg_expr`, `mg_model`, `mg_value`. Above: the keepers of records and the statements, once they read by indexes.
+//! Below: `mg_expr`, `mg_model`, `mg_value`. Above: the binding of statements, and the keepers of records.
 //! Not here: how a range is walked, and which tables have an index.
 #![tactic(auto)]
 
@@ -26,7 +27,7 @@ mod paths;
 mod planning;
 mod range;
 
-pub use laws::a_plan_covers_its_filter;
+pub use laws::{a_plan_covers_its_filter, planned_indexes_are_there};
 pub use paths::Path;
 pub use planning::path;
 pub use range::Range;

@@ -4,3 +4,4 @@ pub mod BoxLemmas
 pub mod LeafLemmas
 pub mod StatementLemmas
 pub mod StepLemmas
+pub mod PlanLemmas

@@ -5,3 +5,4 @@ pub mod Shapes
 pub mod Statements
 pub mod Refusing
 pub mod BindingLaws
+pub mod Plans

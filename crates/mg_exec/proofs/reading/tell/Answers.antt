@@ -1,7 +1,7 @@
 use Rattle.std.proofs.Common.{Option, subst}
 use Rattle.mg_expr.specs.declared.expr.Expr.{Expr}
 use Rattle.mg_records.specs.Reading.{FindAdds}
-use Rattle.mg_exec.specs.Phases.{filter_in}
+use Rattle.mg_plan.specs.Plans.{filter_in}
 use Rattle.mg_exec.proofs.ReadLemmas.{find_quiet}
 use Rattle.mg_exec.proofs.reading.tell.Goals as goal
 
