@@ -1,9 +1,9 @@
 -- Which pages of a new database are free.
 use Rattle.std.proofs.Common.{◌≡◌, ◌≢◌, ◌∙◌, ◌⊎◌, inl, inr, ◌<◌, ◌≤◌, ◌+◌, ◌-◌, ◌*◌, ◌/◌, ◌%◌, min, ℕ, zero, suc, true, false, List, length, refl, sym, ap, subst, arith, lit<, mul-suc}
-use Rattle.std.proofs.Math.Nat.{le-mul_suc, mod-add-div', zero-mul}
+use Rattle.std.proofs.Math.Nat.{mod-add-div', zero-mul}
 use Rattle.std.proofs.Math.ListN.{set}
 use Rattle.std.proofs.lemmas.Bool.{cases_lt}
-use Rattle.std.proofs.lemmas.List.{get_or-replicate, get_or-set_other, get_or-set_same}
+use Rattle.std.proofs.lemmas.List.{get_or-replicate, get_or-set_other, get_or-set_same, get_or_past, length-replicate}
 use Rattle.std.proofs.lemmas.Nat.{div_below, mod_below}
 use Rattle.mg_base.specs.CheckLaws.{new_page_zero}
 use Rattle.mg_base.specs.Fields.{byte, length-new_page}
@@ -14,7 +14,7 @@ use Rattle.mg_format.specs.Format.{IsMade}
 use Rattle.mg_image.specs.Inventory.{inventory_page, is_used}
 use Rattle.mg_pip.specs.PipPage.{bits, new_pip_page, used_in}
 use Rattle.mg_pip.specs.PipPageLaws.{zero_unused}
-use Rattle.mg_new_database_laws.specs.InventoryLaws.{blank_behind}
+use Rattle.mg_new_database_laws.specs.InventoryLaws.{blank_behind, le-mul_suc}
 use Rattle.mg_new_database_laws.specs.NewRoom.{HasNewRoom}
 use Rattle.mg_pip.specs.declared.page.TheConstants.{BITS_AT, PIP_KIND}
 use Rattle.mg_space.specs.FreePages.{HasFree}
@@ -58,7 +58,7 @@ module _ (size : ℕ) (least : 1024 ≤ size) where
 -- ---- free pages
 
 -- of the bits of a region the one at a place among those that are not the inventory page's
-bit_at : ℕ → ℕ
+abbrev bit_at : ℕ → ℕ
 bit_at zero = zero
 bit_at (suc place) = suc (suc place)
 
@@ -85,8 +85,14 @@ bits_apart zero (suc b) same = absurd (omega (arith, same))
 bits_apart (suc a) zero same = absurd (omega (arith, same))
 bits_apart (suc a) (suc b) same = omega (arith, same)
 
+blank_byte : (size at : ℕ) → byte (blank size) at ≡ 0
+blank_byte size at = elim (cases_lt at size) [
+  | inl inside ↦ get_or-replicate size at 0 0 inside
+  | inr past_ ↦ get_or_past (blank size) at 0 (omega (arith, length-replicate {A = ℕ} size 0))
+]
+
 blank_unused : (size bit : ℕ) → used_in (blank size) bit ≡ false
-blank_unused size bit = zero_unused (blank size) bit (get_or-replicate size 0 (BITS_AT + bit / 8))
+blank_unused size bit = zero_unused (blank size) bit (blank_byte size (BITS_AT + bit / 8))
 
 module _ (size limit count : ℕ) (image : Image) (lawful : is_page_size size ≡ true) (made : IsMade size image)
     (room : HasNewRoom size limit count) where

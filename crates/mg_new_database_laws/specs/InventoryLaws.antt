@@ -81,7 +81,7 @@ module _ (size : ℕ) (least : 1024 ≤ size) where
 
 -- ---- regions
 
-le-mul_suc : (k n : ℕ) → k ≤ suc n * k
+pub le-mul_suc : (k n : ℕ) → k ≤ suc n * k
 le-mul_suc k n = let more : suc n * k ≡ n * k + k = suc-mul n k in omega (arith, more)
 
 -- each page behind the seventh is zero

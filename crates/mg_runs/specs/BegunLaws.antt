@@ -21,8 +21,8 @@ use Rattle.mg_model.specs.Answers.{is_active}
 use Rattle.mg_model.specs.Machine.{opening_state}
 use Rattle.mg_model.specs.declared.opening.Opening.{Opening}
 use Rattle.mg_new_database_laws.specs.FreeLaws.{new_has_free}
+use Rattle.mg_new_database_laws.specs.NewRoom.{HasNewRoom}
 use Rattle.mg_new_database_laws.specs.Soundness.{HasWholePages}
-use Rattle.mg_pip.specs.PipPage.{bits}
 use Rattle.mg_pool.specs.Pool.{shown}
 use Rattle.mg_space.specs.FreePages.{HasFree, TellsFree}
 use Rattle.mg_space.specs.RegionLaws.{sound_regions}
@@ -100,20 +100,20 @@ module _ {D : Type 0} (m : Meaning D) (disk : D) (limit : ℕ) (core : Core D) (
 
   pub stands_over : CountsNow m → IsSettledOn m disk image → TellsWholePages m size → (o : Opening)
       → IsOpeningOf size limit image o → StandsFor m core o []
-  stands_over counts on whole _ (of_new free unmade below inside) = stands_new free on whole unmade
+  stands_over counts on whole _ (of_new free unmade room) = stands_new free on whole unmade
   stands_over counts on whole _ (of_sound o it has) = stands_sound counts on o it
 
   -- ---- the pages that are promised
 
   -- a new database has them free
   holds_new : NewBegin → is_page_size size ≡ true → IsSettledOn m disk image → TellsWholePages m size → (free : ℕ)
-      → IsUnmadeImage size image → 7 + free ≤ limit_of limit (length image) → 7 + free ≤ bits size
+      → IsUnmadeImage size image → HasNewRoom size (limit_of limit (length image)) free
       → HoldsRoom m core.store.disk size (limit_of limit (length image)) (new_history free)
-  holds_new new_begin lawful on whole free unmade below inside = record {
+  holds_new new_begin lawful on whole free unmade room = record {
     image = has.image;
     tells = has.tells;
     begins = new_begin free size has.image lawful is_made (new_whole whole has.image has.tells);
-    room = new_has_free size (limit_of limit (length image)) free has.image lawful is_made below inside;
+    room = new_has_free size (limit_of limit (length image)) free has.image lawful is_made room;
   }
     where
       has : HasNew m core.store.disk core.store.geometry.size
@@ -136,8 +136,8 @@ module _ {D : Type 0} (m : Meaning D) (disk : D) (limit : ℕ) (core : Core D) (
   holds_over : CountsNow m → NewBegin → is_page_size size ≡ true → IsSettledOn m disk image → TellsWholePages m size
       → (o : Opening) → IsOpeningOf size limit image o
       → HoldsRoom m core.store.disk size (limit_of limit (length image)) o
-  holds_over counts new_begin lawful on whole _ (of_new free unmade below inside) =
-      holds_new new_begin lawful on whole free unmade below inside
+  holds_over counts new_begin lawful on whole _ (of_new free unmade room) =
+      holds_new new_begin lawful on whole free unmade room
   holds_over counts new_begin lawful on whole _ (of_sound o it has) = holds_sound counts on o it has
 
   -- and the engine shows that image: its inventory pages are lawful, and of the free pages it has any lower number

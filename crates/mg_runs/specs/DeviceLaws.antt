@@ -90,7 +90,7 @@ abbrev some_image : Image → Option Image
 some_image image = Some image
 
 pub forced_is_entry : ForcedIsEntry
-forced_is_entry disk limit free none_asked within inside = record {
+forced_is_entry disk limit free none_asked room = record {
   sized = refl;
   lawful = disk.device.disk.kept.lawful;
   whole = record {
@@ -106,5 +106,5 @@ forced_is_entry disk limit free none_asked within inside = record {
     };
     only = λ c may. none_left (acts_in disk.device.disk) c none_asked may;
   };
-  opening = of_new free (record { header = refl; others = λ n some below. inl refl }) within inside;
+  opening = of_new free (record { header = refl; others = λ n some below. inl refl }) room;
 }

@@ -1,5 +1,5 @@
 -- The disks of which a run promises its history.
-use Rattle.std.specs.Prelude.{◌≡◌, ◌≤◌, ◌+◌, ℕ, true, length, Some}
+use Rattle.std.specs.Prelude.{◌≡◌, ℕ, true, length, Some}
 use Rattle.mg_base.specs.Disk.{Meaning}
 use Rattle.mg_base.specs.Geometry.{is_page_size}
 use Rattle.mg_base.specs.Image.{Image, page_at}
@@ -7,8 +7,8 @@ use Rattle.mg_base.specs.declared.geometry.Geometry.{Geometry}
 use Rattle.mg_engine_meaning_laws.specs.Openings.{BeginsWith, IsSettledOn, new_history}
 use Rattle.mg_format.specs.Format.{IsUnmadeImage}
 use Rattle.mg_model.specs.declared.opening.Opening.{Opening}
+use Rattle.mg_new_database_laws.specs.NewRoom.{HasNewRoom}
 use Rattle.mg_new_database_laws.specs.Soundness.{HasWholePages}
-use Rattle.mg_pip.specs.PipPage.{bits}
 use Rattle.mg_space.specs.FreePages.{HasFree}
 use Rattle.mg_space.specs.View.{Tells}
 use Rattle.mg_survey.specs.Survey.{limit_of}
@@ -25,10 +25,9 @@ abbrev pub geometry_at : ℕ → ℕ → Image → Geometry
 geometry_at size limit image = record { size = size; limit = limit_on limit image }
 
 -- What a history begins with that stands on an image, which is opened with a page limit: on one on which a database
--- may be made a new database, on a sound one what it holds; and so many pages are free as it promises. In a new
--- database the pages of the first region behind the seventh are.
+-- may be made a new database, on a sound one what it holds; and so many pages are free as it promises.
 pub data IsOpeningOf (size limit : ℕ) (image : Image) : Opening → Type 0 where
-  of_new : (free : ℕ) → IsUnmadeImage size image → 7 + free ≤ limit_on limit image → 7 + free ≤ bits size
+  of_new : (free : ℕ) → IsUnmadeImage size image → HasNewRoom size (limit_on limit image) free
       → IsOpeningOf size limit image (new_history free)
   of_sound : (o : Opening) → BeginsWith size image o → HasFree (geometry_at size limit image) (page_at size image) o.free
       → IsOpeningOf size limit image o

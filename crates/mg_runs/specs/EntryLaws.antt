@@ -49,7 +49,7 @@ mem_whole are_whole size = record {
 }
 
 pub blank_is_entry : MemDisksAreWhole → BlankIsEntry
-blank_is_entry are_whole disk limit free none within inside = record {
+blank_is_entry are_whole disk limit free none room = record {
   sized = refl;
   lawful = disk.kept.lawful;
   whole = mem_whole are_whole disk.size;
@@ -57,7 +57,7 @@ blank_is_entry are_whole disk limit free none within inside = record {
     tells = record { told = refl; held = ap (λ (acts : List Act). some_image (image_of disk.size acts)) none };
     only = λ c may. none_left disk.size (acts_in disk) c none may;
   };
-  opening = of_new free (record { header = refl; others = λ n some below. inl refl }) within inside;
+  opening = of_new free (record { header = refl; others = λ n some below. inl refl }) room;
 }
 
 -- where it was settled last, a crash leaves what it holds

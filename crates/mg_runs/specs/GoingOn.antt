@@ -1,5 +1,5 @@
 -- How a next run begins with what a run has left, whole or cut off.
-use Rattle.std.specs.Prelude.{◌≡◌, ◌≤◌, ◌+◌, min, ℕ, true, length, Some}
+use Rattle.std.specs.Prelude.{◌≡◌, ◌≤◌, min, ℕ, true, length, Some}
 use Rattle.mg_base.specs.Disk.{Meaning}
 use Rattle.mg_base.specs.Geometry.{is_page_size}
 use Rattle.mg_base.specs.Image.{Image, page_at}
@@ -12,16 +12,16 @@ use Rattle.mg_image.specs.Form.{Pages}
 use Rattle.mg_image.specs.Inventory.{state_at}
 use Rattle.mg_model.specs.History.{Entries}
 use Rattle.mg_model.specs.declared.opening.Opening.{Opening}
-use Rattle.mg_pip.specs.PipPage.{bits}
+use Rattle.mg_new_database_laws.specs.NewRoom.{HasNewRoom}
 use Rattle.mg_space.specs.FreePages.{HasFree}
 use Rattle.mg_survey.specs.Survey.{limit_of}
 use Rattle.mg_runs.specs.Entry.{IsEntry, IsOpeningOf, TellsWholePages, geometry_at, promising}
 
 -- So many pages may be promised on an image that is opened with a page limit: on one on which a database may be made
--- those of the first region behind the seventh, on any other one those that are free by its inventory pages.
+-- those that are free in a new one, on any other one those that are free by its inventory pages.
 abbrev pub MayPromise : ℕ → ℕ → Image → ℕ → Type 0
 MayPromise size limit image free =
-    (IsUnmadeImage size image → (7 + free ≤ limit_of limit (length image)) × (7 + free ≤ bits size))
+    (IsUnmadeImage size image → HasNewRoom size (limit_of limit (length image)) free)
     × ((IsUnmadeImage size image → ⊥) → HasFree (geometry_at size limit image) (page_at size image) free)
 
 -- the tables of an image are plain, which an opening wants

@@ -126,7 +126,7 @@ new_opens free = new_is_opening GREATEST_NEXT free (lit≤ tt) (lit≤ tt)
 -- what a history begins with that stands on an image is whole, and what is in limbo has only made rows of the catalog
 pub opening_is : (size limit : ℕ) (image : Image) (o : Opening) → IsOpeningOf size limit image o
     → IsOpening o × CatalogGrows o []
-opening_is size limit image _ (of_new free unmade below inside) =
+opening_is size limit image _ (of_new free unmade room) =
     (new_opens free, record { limbo = tt; entries = tt })
 opening_is size limit image _ (of_sound o it has) = (it.whole, it.grows)
 
@@ -179,7 +179,7 @@ module _ (begin : OpeningsBegin) (size : ℕ) (image : Image) (o : Opening) (h :
   new_next = record {
     later = new_history 0;
     goes_on = new_goes_on;
-    opening = λ limit free plain may. of_new free unmade (may.0 unmade).0 (may.0 unmade).1;
+    opening = λ limit free plain may. of_new free unmade (may.0 unmade);
   }
 
 -- ---- any image that holds a history

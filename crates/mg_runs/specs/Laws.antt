@@ -1,5 +1,5 @@
 -- What the steps of a run give of its promise.
-use Rattle.std.specs.Prelude.{◌≡◌, ◌≤◌, ◌+◌, ℕ, Bool, true, false, List, [], ◌∷◌, Option, Some, Result, Ok, Err}
+use Rattle.std.specs.Prelude.{◌≡◌, ◌≤◌, ℕ, Bool, true, false, List, [], ◌∷◌, Option, Some, Result, Ok, Err}
 use Rattle.mg_base.specs.Disk.{Meaning}
 use Rattle.mg_base.specs.Image.{Image}
 use Rattle.mg_base.specs.FaultyDisk.{disk_of, faulty_meaning}
@@ -22,7 +22,7 @@ use Rattle.mg_model.specs.Answers.{is_active}
 use Rattle.mg_model.specs.Machine.{state_of}
 use Rattle.mg_model.specs.declared.opening.Opening.{Opening}
 use Rattle.mg_model.specs.declared.refusal.Refusal.{Refusal}
-use Rattle.mg_pip.specs.PipPage.{bits}
+use Rattle.mg_new_database_laws.specs.NewRoom.{HasNewRoom}
 use Rattle.mg_records.specs.Keeping.{refusal_in}
 use Rattle.mg_script.specs.declared.line.Line.{Line}
 use Rattle.mg_scripts.specs.declared.lines.LinesEnd.{LinesEnd}
@@ -128,10 +128,10 @@ ClosingsFail {D} {P} m places = (disk new : D) (limit : ℕ) (core now : Core D)
 -- ---- the premise
 
 -- A disk in memory of which nothing was asked yet is one on which a run has its history, that of a new database. It may
--- promise the pages of the first region behind the seventh, up to the page limit.
+-- promise those that are free in it below the page limit.
 abbrev pub BlankIsEntry : Type 0
-BlankIsEntry = (disk : MemDisk) (limit free : ℕ) → acts_in disk ≡ [] → 7 + free ≤ limit_of limit 0
-    → 7 + free ≤ bits disk.size → IsEntry mem_meaning disk limit disk.size [] (new_history free)
+BlankIsEntry = (disk : MemDisk) (limit free : ℕ) → acts_in disk ≡ []
+    → HasNewRoom disk.size (limit_of limit 0) free → IsEntry mem_meaning disk limit disk.size [] (new_history free)
 
 -- One that was settled last, as one that is made of an image, is one on which a run has any history that the image may
 -- begin with.
@@ -149,7 +149,7 @@ FaultyIsEntry = (disk : FaultyDisk) (limit size : ℕ) (image : Image) (o : Open
 -- of a new database.
 abbrev pub ForcedIsEntry : Type 0
 ForcedIsEntry = (disk : ForcedWrites MemDevice) (limit free : ℕ) → acts_in disk.device.disk ≡ []
-    → 7 + free ≤ limit_of limit 0 → 7 + free ≤ bits disk.device.disk.size
+    → HasNewRoom disk.device.disk.size (limit_of limit 0) free
     → IsEntry (forced_meaning mem_device_meaning) disk limit disk.device.disk.size [] (new_history free)
 
 -- what a history may begin with promises any number of pages that are free

@@ -112,7 +112,7 @@ module _ (new_begin : NewBegin) {D : Type 0} (m : Meaning D) (counts : CountsNow
 
   pub opening_leaves : (limit : ℕ) (o : Opening) → IsOpeningOf size limit image o
       → LeavesOnly m disk new (HoldsFrom packed_form size o [] 0)
-  opening_leaves limit _ (of_new free unmade below inside) = new_leaves free unmade
+  opening_leaves limit _ (of_new free unmade room) = new_leaves free unmade
   opening_leaves limit _ (of_sound o it has) = sound_leaves o it
 
 -- ---- a disk that was not opened
@@ -137,7 +137,7 @@ module _ {D : Type 0} (m : Meaning D) (disk new : D) (limit : ℕ) (refusal : Re
   }
 
   pub not_judged : (o : Opening) → IsOpeningOf size limit image o → IsNoJudgement refusal
-  not_judged _ (of_new free unmade below inside) = refused.lawful_new size image its_size on.tells unmade
+  not_judged _ (of_new free unmade room) = refused.lawful_new size image its_size on.tells unmade
   not_judged _ (of_sound o it has) = refused.lawful size image its_size
       (still_told (kept_by_size (not_unmade size image o it))) (inl (is_sound size image o it))
 
