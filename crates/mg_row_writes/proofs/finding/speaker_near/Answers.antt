@@ -1,4 +1,4 @@
-use Rattle.std.proofs.Common.{Option, subst, sym}
+use Rattle.std.proofs.Common.{Option, [], subst, sym}
 use Rattle.std.specs.Prelude.{MatchResult}
 use Rattle.mg_base.specs.declared.numbers.RecId.{RecId}
 use Rattle.mg_heap.specs.HandedLaws.{reads_same}
@@ -63,13 +63,13 @@ pub speaker_at-requires-clause-geometry : goal.speaker_at-requires-clause-geomet
 speaker_at-requires-clause-geometry g c = subst IsGeometry (sym c.in_ok-found.ensures.keeps.geometry)
     c.requires.geometry
 
-pub returns-clause-keeps : goal.returns-clause-keeps
-returns-clause-keeps g c = c.in_ok-found.ensures.keeps
+pub returns-in-Some-clause-keeps : goal.returns-in-Some-clause-keeps
+returns-in-Some-clause-keeps g c = c.in_ok-found.ensures.keeps
 
-pub returns-clause-fault : goal.returns-clause-fault
-returns-clause-fault g c = c.in_ok-found.ensures.fault
+pub returns-in-Some-clause-fault : goal.returns-in-Some-clause-fault
+returns-in-Some-clause-fault g c = c.in_ok-found.ensures.fault
 
-pub returns-clause-gives : goal.returns-clause-gives
-returns-clause-gives g c = λ image tells. subst (SpeaksThere (g.S.States.state_of c.args.states.now) c.args.live.now
+pub returns-in-Some-clause-gives : goal.returns-in-Some-clause-gives
+returns-in-Some-clause-gives g c = λ image tells. subst (SpeaksThere (g.S.States.state_of c.args.states.now) c.args.live.now
     (shown c.args.store.now.dirty image) c.args.table.now c.args.key.now) c.in-Some.is
     (c.in_ok-found.ensures.gives image tells)
