@@ -1,4 +1,4 @@
-use Rattle.std.proofs.Common.{arith, length}
+use Rattle.std.proofs.Common.{arith, length, refl}
 use Rattle.mg_check_records.proofs.ListingLemmas.{set_all, set_few, set_more}
 use Rattle.mg_check_records.proofs.marks.count_set.Goals as goal
 
@@ -15,5 +15,5 @@ overflow_add-count c = omega (
 )
 
 pub returns : goal.returns
-returns c = set_all c.args.marks.now c.loop-at.at c.len-at-end.result (length c.args.marks.now) c.loop-at.count
-    c.len-at-end.ensures c.loop-at.auto.at-end c.loop-at-test.false c.loop-at.invariant
+returns c = set_all c.args.marks.now c.loop-at.at (length c.args.marks.now) (length c.args.marks.now) c.loop-at.count refl
+    c.loop-at.auto.at-end c.loop-at-test.false c.loop-at.invariant
