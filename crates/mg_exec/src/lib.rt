@@ -35,13 +35,12 @@ mod selecting;
 mod starting;
 
 pub use changing::{change, start_to_write};
-pub use creating::{create, look_for_table, retry, turned_with};
+pub use creating::{create, retry, turned_with};
 pub use laws::statements_go_on_beside_others;
 pub use making::make_writes;
-pub use parts::{filter_of, is_insert, is_select, is_writing};
+pub use parts::{is_insert, is_select, is_writing};
 pub use phase::{Changing, Inserting, NewTable, Phase, Reading, Step, Turn};
 pub use points::{go_back, save};
 pub use reading::read;
 pub use run::Run;
 pub use selecting::{answer, as_answer};
-pub use starting::look_and_test;
