@@ -2,9 +2,9 @@
 //!
 //! Owns: `Run`, a statement of a transaction that runs in steps (`Run::test`, `Run::step`), `Step`,
 //! what a step came to, and the steps of each kind of statement: the tests before a row is read
-//! (`look_and_test`), the reading (`read`), the writes that are made of the rows found (`make_writes`)
+//! (`test`), the reading (`read`), the writes that are made of the rows found (`make_writes`)
 //! and written one a step (`start_to_write`, `change`), what a SELECT answers (`answer`), savepoints
-//! (`save`, `go_back`), and CREATE TABLE, which is one step (`look_for_table`, `create`, `retry`).
+//! (`save`, `go_back`), and CREATE TABLE, which is one step (`test_table`, `create`, `retry`).
 //!
 //! A statement looks, finds its rows, sets its mark and writes, each an event of the history. What a
 //! statement gives of events, and what it comes to, is said in `specs/Statements`: `IsAt` where it
