@@ -116,7 +116,7 @@ stop_field h table ns met holder l f (stops.again v meets was is) = same_field f
 stop_field h table ns met holder l f (stops.unread v meets was body) = body_field table l.rec v f body
 
 -- where the end of a walk tells of something, it has a field
-EndField : Option Finding → Type 0
+abbrev EndField : Option Finding → Type 0
 EndField end = (f : Finding) → end ≡ Some f → HasField f
 
 some_once : (f g : Finding) → ◌≡◌ {A = Option Finding} (Some f) (Some g) → f ≡ g
@@ -140,7 +140,7 @@ pub catalog_field : (size : ℕ) (pages : Pages) (f : Finding) → IsCatalogStop
 catalog_field size pages f is = stopped_field _ _ _ _ _ f is.stopped
 
 -- what was found on walks over a table
-all_fields : List Finding → Type 0
+abbrev all_fields : List Finding → Type 0
 all_fields found = (f : Finding) → Has found f → HasField f
 
 append_fields : (found : List Finding) (end : Option Finding) → all_fields found → EndField end

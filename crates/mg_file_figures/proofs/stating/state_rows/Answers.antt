@@ -1,7 +1,6 @@
-use Rattle.std.proofs.Common.{ap, subst, sym, ℕ, ◌∙◌}
+use Rattle.std.proofs.Common.{length, subst, sym}
 use Rattle.mg_catalog.specs.ByKey.{by_key}
 use Rattle.mg_catalog.specs.FirstBad.{IsFirstBad}
-use Rattle.mg_file_figures.specs.Stating.{row_finding}
 use Rattle.mg_model.specs.CatalogRules.{AreTables}
 use Rattle.mg_file_figures.proofs.StatingLemmas.{err_told, names_tables, row_damage, row_stated}
 use Rattle.mg_file_figures.proofs.stating.state_rows.Goals as goal
@@ -12,11 +11,11 @@ returns-in-Err-BadTable-clause-stated c = row_stated c.args.size c.args.pages.no
     c.requires.shows c.requires.first c.in-Err-BadTable.field-0-is
     (err_told (IsFirstBad c.args.rows.now) c.tables_of.result c.in-Err-BadTable.field-0
     c.in-Err-BadTable.is c.tables_of.ensures.bad)
-    (c.bad_row.ensures ∙ ap (λ (n : ℕ). row_finding c.args.first c.in-Err-BadTable.at n) c.len.ensures)
+    (rw c.in-Err-BadTable.field-0-is at c.bad_row.ensures)
 
 pub returns-in-Err-BadTable-clause-damage : goal.returns-in-Err-BadTable-clause-damage
 returns-in-Err-BadTable-clause-damage c = row_damage c.args.size c.args.pages.now c.args.first
-    c.in-Err-BadTable.at c.len.result c.bad_row.result c.bad_row.ensures
+    c.in-Err-BadTable.at (length c.args.rows.now) c.bad_row.result (rw c.in-Err-BadTable.field-0-is at c.bad_row.ensures)
 
 pub state_tables-requires-clause-names : goal.state_tables-requires-clause-names
 state_tables-requires-clause-names c = names_tables c.args.size c.args.pages.now c.args.rows.now

@@ -14,11 +14,10 @@ returns c = figures_told c.args.size c.args.pages.now c.args.holder c.args.table
     c.args.data_pages.now c.in_ok-walk.walk.marks c.in_ok-walk.walk.found.items
     (record {
       name = c.args.table.now.name;
-      records = c.len-record_count.result;
+      records = length c.as_slice-listed.result.now;
       versions = c.count-version_count.result;
-      pages = c.len-page_count.result;
+      pages = length c.args.data_pages.now;
     }) c.requires.none c.requires.are c.in_ok-walk.ensures.walked c.in_ok-walk.ensures.marks
     (sym c.as_slice-found.ensures.value ∙ c.in_default.ensures) refl
-    (c.len-record_count.ensures ∙ ap (λ (ps : List RecId). length ps)
-    (c.as_slice-listed.ensures.value ∙ c.in_ok-records.ensures.records))
-    c.count-version_count.ensures c.len-page_count.ensures
+    (ap (λ (ps : List RecId). length ps) (c.as_slice-listed.ensures.value ∙ c.in_ok-records.ensures.records))
+    c.count-version_count.ensures refl
