@@ -73,7 +73,7 @@ pub outside_for : {R P T : Type 0} (m : Means R P) (old : R) (result : Result T 
     → IfErr result (λ refusal. is_outer (No refusal) ≡ true)
     → ((o : Opening) (h : Entries) → m.stands old o h → TakesNoPage (refusal_in result)) → IsOutsideFor m old result
 outside_for m old (Ok x) outer unpaged = tt
-outside_for m old (Err refusal) outer unpaged o h stands = outer_unpaged refusal outer (unpaged o h stands)
+outside_for m old (Err refusal) outer unpaged = λ o h stands. outer_unpaged refusal outer (unpaged o h stands)
 
 -- no crash loses what was durable
 pub aside_carries : {R P : Type 0} (m : Means R P) → HoldsOn m → (old new : R) (refusal : Option Refusal)
