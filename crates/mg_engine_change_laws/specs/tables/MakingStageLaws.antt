@@ -163,6 +163,8 @@ module _ (one : RowsAreOne packed_coding) (speakers : SpeakersAreTold) {D : Type
                 next = shows.stands.shows.next;
                 versions = versions;
                 tables = shows.stands.shows.tables;
+                found = shows.stands.shows.found;
+                bare = shows.stands.shows.bare;
               };
             }) old.catalog key None catalog_there spoken).1 chain
             (subst (λ (n : List ℕ). IsChainOf (facts_by (left_state everyone (said old.list))
