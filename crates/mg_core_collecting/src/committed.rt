@@ -1,6 +1,6 @@
 //! The tables that committed rows of the catalog name.
 
-ghost use Rattle.std.specs.Prelude.{◌≡◌, ◌≤◌, ◌<◌, None, MatchResult, IfOk, length};
+ghost use Rattle.std.specs.Prelude.{◌≡◌, ◌≤◌, ◌<◌, [], None, MatchResult, IfOk, length};
 ghost use Rattle.mg_base.specs.Image.{Image};
 ghost use Rattle.mg_catalog.specs.ByKey.{by_key};
 ghost use Rattle.mg_chain.specs.Refusals.{damage};
