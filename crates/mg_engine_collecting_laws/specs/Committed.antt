@@ -56,8 +56,8 @@ module _ (state : ℕ → TxState) (next : ℕ) (system : state 0 ≡ Committed)
       unlisted = ap (λ (b : Bool). b || false) (ne_eqb 0 u (λ same. other (sym same)))
 
       kept : (b c d : Bool) → c ≡ true → d ≡ false → (b && (c && not d)) ≡ b
-      kept true c d is no = ap (λ (x : Bool). x && not d) is ∙ ap (λ (x : Bool). not x) no
-      kept false c d is no = refl
+      kept true c d is off = ap (λ (x : Bool). x && not d) is ∙ ap (λ (x : Bool). not x) off
+      kept false c d is off = refl
 
       gone : (b c : Bool) → b ≡ false → (b && c) ≡ b
       gone true c is = absurd cc

@@ -423,8 +423,8 @@ module _ (one : RowsAreOne packed_coding) (one_way : StandsOneWay packed_form) (
     standing = standings_on on_tips m old o h numbers tables a mid it first (done ++ next ∷ []) have next
         (last_one done next)
 
-    its_page : IsPageAt m (said old.list) mid x.page.0 its
-    its_page = page_on on_tips m old o h numbers tables a mid it first x.page.0 its on
+    own_page : IsPageAt m (said old.list) mid x.page.0 its
+    own_page = page_on on_tips m old o h numbers tables a mid it first x.page.0 its on
 
     -- a table of its name is its table
     same_table : its.name ≡ next.name → standing.its ≡ its
@@ -434,7 +434,7 @@ module _ (one : RowsAreOne packed_coding) (one_way : StandsOneWay packed_form) (
         (stands_in first.shown_then.stands.shows.layout standing.its (inr (standing.stands first.shown_then.image
         first.shown_then.tells first.shown_then.stands.shows.layout first.shown_then.stands.shows.reading
         first.shown_then.stands.shows.sound)))
-        (table_at_stands first.shown_then.stands.shows.layout x.page.0 its (its_page first.shown_then.image
+        (table_at_stands first.shown_then.stands.shows.layout x.page.0 its (own_page first.shown_then.image
         first.shown_then.tells first.shown_then.stands.shows.layout first.shown_then.stands.shows.reading
         first.shown_then.stands.shows.sound)) (standing.named ∙ sym same)
 
@@ -447,17 +447,17 @@ module _ (one : RowsAreOne packed_coding) (one_way : StandsOneWay packed_form) (
 
     next_left : its.name ≡ next.name → Left b x (e ∷ es)
     next_left same = table_left mid b first.shown_then next standing made x
-        (subst (λ (t : Table). IsPageAt m (said old.list) mid x.page.0 t) (sym (same_table same)) its_page) e es
+        (subst (λ (t : Table). IsPageAt m (said old.list) mid x.page.0 t) (sym (same_table same)) own_page) e es
         (was.stays (λ table among also. apart table among (sym also ∙ same)))
 
     done_left : (table : Table) → IsOneOf done table → its.name ≡ table.name → Left b x (e ∷ es)
-    done_left table among same = table_leaves mid b first.shown_then next standing made x its its_page
+    done_left table among same = table_leaves mid b first.shown_then next standing made x its own_page
         (other_table (λ also. apart table among (sym same ∙ also))) (e ∷ es) (was.left table among same)
 
     more_tables : OfTables b (done ++ next ∷ []) its x (e ∷ es)
     more_tables = record {
       left = λ table among same. at table (one_split done next table among) same;
-      stays = λ none. table_stays mid b first.shown_then next standing made x its its_page
+      stays = λ none. table_stays mid b first.shown_then next standing made x its own_page
           (other_table (none next (last_one done next))) (e ∷ es)
           (was.stays (λ table among. none table (front_one done next table among)));
     }
@@ -531,22 +531,22 @@ module _ (one : RowsAreOne packed_coding) (one_way : StandsOneWay packed_form) (
   ascending : Ascend (table_names is.collected.tables)
   ascending = (is.collected.finds.named it.image it.tells).names.ascending
 
-  standing : HasStanding m (said old.list) old.store table
-  standing = have table among
+  its_standing : HasStanding m (said old.list) old.store table
+  its_standing = have table among
 
   -- its record stands on one of its pages
-  on_page : IsPageAt m (said old.list) old.store (places.rec place).page.0 standing.its
+  on_page : IsPageAt m (said old.list) old.store (places.rec place).page.0 its_standing.its
   on_page image tells layout r sound = (its_data packed_form old.store.geometry.size
-      (left_state everyone (said old.list)) (shown old.store.dirty image) layout r sound standing.its there
+      (left_state everyone (said old.list)) (shown old.store.dirty image) layout r sound its_standing.its there
       (places.rec place).page.0).1 (page_of_record (shown old.store.dirty image) there.stand.table.pointer.0
       there.stand.pointers there.stand.data_pages (walked packed_form.in_primary old.store.geometry.size
       (shown old.store.dirty image) there.stand (its_pages packed_form old.store.geometry.size
-      (left_state everyone (said old.list)) (shown old.store.dirty image) layout r sound standing.its there))
+      (left_state everyone (said old.list)) (shown old.store.dirty image) layout r sound its_standing.its there))
       (places.rec place) (subst (λ (p : PageNo). IsRecordOf (shown old.store.dirty image) p.0 (places.rec place))
-      (sym (ap (λ (t : Table). t.pointer) there.table_is ∙ standing.same)) (has image tells)))
+      (sym (ap (λ (t : Table). t.pointer) there.table_is ∙ its_standing.same)) (has image tells)))
     where
-      there : IsTableOf layout standing.its
-      there = stands_in layout standing.its (inr (standing.stands image tells layout r sound))
+      there : IsTableOf layout its_standing.its
+      there = stands_in layout its_standing.its (inr (its_standing.stands image tells layout r sound))
 
   -- it has a version
   some_version : (e : Entry) × (es : List Entry) × (its_kept.entries ≡ e ∷ es)
@@ -571,20 +571,20 @@ module _ (one : RowsAreOne packed_coding) (one_way : StandsOneWay packed_form) (
       never : (e : Entry) (es : List Entry) → e ∷ es ≡ [] → ⊥
       never e es none = cc
 
-  behind : IsBehind m old o h stands.numbers stands.tables old.store
+  all_behind : IsBehind m old o h stands.numbers stands.tables old.store
       (shown old.store.dirty (shown_of m old is.up o h stands core).image) new.store
-  behind = committed_behind one one_way on_tips lists keep_plain covered erased begins rows_law m last reads_last holds
+  all_behind = committed_behind one one_way on_tips lists keep_plain covered erased begins rows_law m last reads_last holds
       failing old core is.up new.store is.collected o h stands
 
-  left_of : IsLeftOf o h (cells_of (shown new.store.dirty behind.shown_then.image)) (places.rec place)
+  left_of : IsLeftOf o h (cells_of (shown new.store.dirty all_behind.shown_then.image)) (places.rec place)
       (some_version.0 ∷ some_version.1)
   left_of = (tables_left one one_way on_tips lists keep_plain covered erased begins m last reads_last holds old o h
       stands.numbers stands.tables is.collected.ready first.shown_then is.collected.tables new.store is.collected.goes
       (standings_on on_tips m old o h stands.numbers stands.tables old.store is.collected.ready it first
-      is.collected.tables have) ascending (places.rec place) standing.its
+      is.collected.tables have) ascending (places.rec place) its_standing.its
       (page_on on_tips m old o h stands.numbers stands.tables old.store is.collected.ready it first
-      (places.rec place).page.0 standing.its on_page) some_version.0 some_version.1 ready_kept).left table among
-      standing.named behind.shown_then.image behind.shown_then.tells
+      (places.rec place).page.0 its_standing.its on_page) some_version.0 some_version.1 ready_kept).left table among
+      its_standing.named all_behind.shown_then.image all_behind.shown_then.tells
     where
       first : IsBehind m old o h stands.numbers stands.tables old.store
           (shown old.store.dirty (shown_of m old is.up o h stands core).image) is.collected.ready
@@ -606,7 +606,7 @@ module _ (one : RowsAreOne packed_coding) (one_way : StandsOneWay packed_form) (
     kept = λ j tells. record {
       entries = left_of.left;
       its = subst (λ (i : Image). HasInOrder (cells_of (shown new.store.dirty i)) (places.rec place) left_of.left)
-          (one_image m new.store.disk behind.shown_then.image j behind.shown_then.tells tells) left_of.kept.its;
+          (one_image m new.store.disk all_behind.shown_then.image j all_behind.shown_then.tells tells) left_of.kept.its;
       are = refl;
     };
     is = subst (λ (vs : List Kept). IsLeft o h vs (map kept_of left_of.left))
