@@ -11,7 +11,9 @@ use crate::{
     records_change, sound_images_are_lawful, versions_go_out,
 };
 use mg_base::Disk;
-use mg_engine_change_laws::{backs_are_known, kept_tables_stand, keys_enter_midway, rows_are_given};
+use mg_engine_change_laws::{
+    backs_are_known, kept_tables_stand, keys_enter_midway, rows_are_given,
+};
 use mg_engine_step_laws::rows_go_on;
 use mg_entry_tie_laws::insertions_meet_none;
 use mg_seek::{keys_are_those_of_the_history, records_are_those_of_every_reading};
