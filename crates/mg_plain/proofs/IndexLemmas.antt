@@ -1,5 +1,5 @@
 -- What a step of a walk by an index comes to in the plain machine.
-use Rattle.std.proofs.Common.{◌≡◌, ℕ, zero, suc, ◌+◌, ◌<◌, ltb, ltb-false, ltb-true, true, false, List, [], ◌∷◌, ◌++◌, drop, length, get_or, Option, Some, None, Ok, refl, sym, ap, subst, ◌∙◌, arith}
+use Rattle.std.proofs.Common.{◌≡◌, ℕ, zero, suc, ◌+◌, ◌<◌, ltb, le-ltb, lt-ltb, ltb-false, ltb-true, true, false, List, [], ◌∷◌, ◌++◌, drop, length, get_or, Option, Some, None, Ok, refl, sym, ap, subst, ◌∙◌, arith}
 use Rattle.std.specs.Prelude.{slice_get}
 use Rattle.std.specs.List.{filter}
 use Rattle.std.proofs.lemmas.List.Elements.{filter-append, filter_passes}
@@ -25,12 +25,16 @@ pub column_found : (indexes : List Index) (at : ℕ) (index : Index) → true �
     → index ≡ get_or indexes at index → index.column ≡ column_at indexes at
 column_found [] at index inside is = absurd (omega (arith, ltb-true at 0 (sym inside)))
 column_found (i ∷ indexes) zero index inside is = ap (λ (x : Index). x.column) is
-column_found (i ∷ indexes) (suc at) index inside is = column_found indexes at index inside is
+column_found (i ∷ indexes) (suc at) index inside is =
+    let below = ltb-true (suc at) (length (i ∷ indexes)) (sym inside) in
+    column_found indexes at index (sym (lt-ltb at (length indexes) (omega (arith, below)))) is
 
 pub column_past : (indexes : List Index) (at : ℕ) → false ≡ ltb at (length indexes) → 0 ≡ column_at indexes at
 column_past [] at past = refl
 column_past (i ∷ indexes) zero past = absurd (omega (arith, ltb-false 0 (length (i ∷ indexes)) (sym past)))
-column_past (i ∷ indexes) (suc at) past = column_past indexes at past
+column_past (i ∷ indexes) (suc at) past =
+    let behind = ltb-false (suc at) (length (i ∷ indexes)) (sym past) in
+    column_past indexes at (sym (le-ltb at (length indexes) (omega (arith, behind))))
 
 -- ---- rows in a range
 
